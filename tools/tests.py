@@ -161,6 +161,8 @@ names = ["DCU"]
         self.bad("log.csv:2: no CSV from here on", self.HEAD + '2026-11-29 01:00:00,A,"read,17\n')
         self.bad("log.csv:2:4: octets that are no utf-8", (self.HEAD + self.READ).encode().replace(b"17", b"\xe4"))
         self.bad("log.csv:1: it is empty", "")
+        self.bad("log.csv: no row became an event", self.HEAD)
+        self.bad("log.csv:1: 2 columns are called `event`", self.HEAD.replace("detail", "event"))
         self.bad("log.csv:1: no column is called `time`", "Time;meter;event;detail\n")
         self.bad("log.csv:3: more than a year", self.HEAD + self.READ + self.READ.replace("2026", "1970"))
         self.bad("log.csv:1001:2: `M1000` is meter 1000", self.HEAD + "".join(self.READ.replace("A", f"M{it}") for it in range(1, 1001)))
@@ -176,6 +178,9 @@ names = ["DCU"]
             ("map.toml:13:1: the pattern of the detail has no meaning", "(?P<node>", "(?P<node"),
             ("map.toml:14:1: no table or key is called `coordinators`", "[coordinator]", "[coordinators]"),
             ("map.toml:15:1: `names` is a list", '["DCU"]', '"DCU"'),
+            ("map.toml:17:1: `eui` has 16 hexadecimal digits", '["DCU"]', '["DCU"]\n[meters]\nA = { eui = "12" }'),
+            ("map.toml:3:1: unknown encoding: latin-77", 'time = "time"', 'encoding = "latin-77"\ntime = "time"'),
+            ("log.csv: it is no utf-16", 'time = "time"', 'encoding = "utf-16"\ntime = "time"'),
         ):
             self.assertIn(old, self.MAPPING)
             self.bad(said, self.HEAD + self.READ, self.MAPPING.replace(old, new))
