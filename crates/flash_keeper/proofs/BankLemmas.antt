@@ -3,11 +3,13 @@ use Rattle.std.proofs.Common.{◌≡◌, ◌⊎◌, inl, inr, ℕ, ◌+◌, ◌-
 use Rattle.std.proofs.Common.{sym, subst, ap, ◌∙◌, arith}
 use Rattle.plc_base.specs.Keeper.{Records}
 use Rattle.flash_keeper.specs.Flash.{Bank, Programs, Erases, erased, head_word}
-use Rattle.flash_keeper.specs.Log.{place, mark, room, upto, IsCertain, IsSettled, IsLeft, IsFoundBlank, IsClosable, Choice}
-use Rattle.flash_keeper.specs.Log.{IsOneOf, SameOutside, IsOpen, IsBlankFrom, fence}
+use Rattle.flash_keeper.specs.Log.{place, mark, fence, room, upto, IsCertain, IsSettled, IsLeft, IsFoundBlank, IsClosable, IsShort, Choice}
+use Rattle.flash_keeper.specs.Log.{IsOneOf, SameOutside, IsOpen, IsBlankFrom, IsDecided, AreDecided}
 use Rattle.flash_keeper.specs.Banks.{IsHeaded, IsDead, IsNumbered, IsStanding, IsBeside, AreLeft, IsStore, AreReady, IsSeen, choice_of}
-use Rattle.flash_keeper.proofs.CellLemmas.{upto-same, all_certain-same, whole-same}
-use Rattle.flash_keeper.proofs.LogLemmas.{one_of, settled_is_left}
+use Rattle.flash_keeper.specs.Banks.{IsDecayed, MayOpen, IsCause}
+use Rattle.flash_keeper.specs.declared.keeper.OpenFault.{OpenFault}
+use Rattle.flash_keeper.proofs.CellLemmas.{upto-same, upto_fence-same, all_certain-same, whole-same}
+use Rattle.flash_keeper.proofs.LogLemmas.{one_of, settled_is_left, uncounted_cell}
 
 pub some_is_none : {A : Type 0} {x : A} → Some x ≡ None → ⊥
 some_is_none e = cc
@@ -46,12 +48,14 @@ left-same old new n c torn size same l = record {
   blank = λ i le. same i (omega (arith, le)) ∙ l.blank i le;
   within = subst (λ (z : ℕ). (n < room z) ⊎ ((n ≡ room z) × IsBlankFrom new.words (place n))) (sym size) (still l.within);
   stands = one_of (records-same old new n same) l.stands;
-  stands_next = one_of (records-same old new (n + 1) same) l.stands_next;
+  stands_next = one_of (upto_fence-same old.words new.words n (λ i three le. same i three) (λ i a b. same i (omega (arith, a))) (same (fence n) (omega
+      arith))) l.stands_next;
 }
   where
     opened : IsOpen old.words n → IsOpen new.words n
-    opened (inl e) = inl (same (mark n) (omega arith) ∙ e)
-    opened (inr (whole, e)) = inr (whole-same old.words new.words n (λ i a b. same i (omega (arith, a))) whole, same (fence n) (omega arith) ∙ e)
+    opened (inl (f, m)) = inl (same (fence n) (omega arith) ∙ f, same (mark n) (omega arith) ∙ m)
+    opened (inr (whole, inl e)) = inr (whole-same old.words new.words n (λ i a b. same i (omega (arith, a))) whole, inl (same (mark n) (omega arith) ∙ e))
+    opened (inr (whole, inr e)) = inr (whole-same old.words new.words n (λ i a b. same i (omega (arith, a))) whole, inr (same (fence n) (omega arith) ∙ e))
 
     still : (n < room old.size) ⊎ ((n ≡ room old.size) × IsBlankFrom old.words (place n))
         → (n < room old.size) ⊎ ((n ≡ room old.size) × IsBlankFrom new.words (place n))
@@ -85,6 +89,42 @@ choose_second a b c g seen sees is store = choose b a c g seen sees is (swapped 
     swapped : IsStore a b c → IsStore b a c
     swapped (inl l) = inr l
     swapped (inr l) = inl l
+
+-- of two banks that an opening may be given, of which the first one read as live: they are left so, or it has decayed
+pub chosen : (a b : Bank) (g : ℕ) (seen : Option ℕ) → IsSeen a seen → seen ≡ Some g → MayOpen a b
+    → ((c : Choice) × (n : ℕ) × AreLeft a b n c) ⊎ IsDecayed a b
+chosen a b g seen sees is (inl (c, store)) = let left = choose a b c g seen sees is store in inl (c, left.0, left.1)
+chosen a b g seen sees is (inr (inl decayed)) = inr decayed
+chosen a b g seen sees is (inr (inr decayed)) = absurd (some_is_none (sym is ∙ sees.dead decayed.spare_is))
+
+pub chosen_second : (a b : Bank) (g : ℕ) (seen : Option ℕ) → IsSeen b seen → seen ≡ Some g → MayOpen a b
+    → ((c : Choice) × (n : ℕ) × AreLeft b a n c) ⊎ IsDecayed b a
+chosen_second a b g seen sees is (inl (c, store)) = let left = choose_second a b c g seen sees is store in inl (c, left.0, left.1)
+chosen_second a b g seen sees is (inr (inl decayed)) = absurd (some_is_none (sym is ∙ sees.dead decayed.spare_is))
+chosen_second a b g seen sees is (inr (inr decayed)) = inr decayed
+
+-- which of them has decayed
+pub decayed_is : (a b : Bank) (g : ℕ) (seen : Option ℕ) → IsSeen a seen → seen ≡ Some g → IsDecayed a b ⊎ IsDecayed b a → IsDecayed a b
+decayed_is a b g seen sees is (inl decayed) = decayed
+decayed_is a b g seen sees is (inr decayed) = absurd (some_is_none (sym is ∙ sees.dead decayed.spare_is))
+
+swapped_decay : (a b : Bank) → IsDecayed a b ⊎ IsDecayed b a → IsDecayed b a ⊎ IsDecayed a b
+swapped_decay a b (inl decayed) = inr decayed
+swapped_decay a b (inr decayed) = inl decayed
+
+pub decayed_second : (a b : Bank) (g : ℕ) (seen : Option ℕ) → IsSeen b seen → seen ≡ Some g → IsDecayed a b ⊎ IsDecayed b a → IsDecayed b a
+decayed_second a b g seen sees is decayed = decayed_is b a g seen sees is (swapped_decay a b decayed)
+
+-- one of them reads as live
+pub decayed_is_seen : (a b : Bank) (one two : Option ℕ) → IsSeen a one → IsSeen b two → one ≡ None → two ≡ None → IsDecayed a b ⊎ IsDecayed b a → ⊥
+decayed_is_seen a b one two sees_a sees_b is_a is_b (inl d) = some_is_none (sym (sees_a.live d.generation d.live_is) ∙ is_a)
+decayed_is_seen a b one two sees_a sees_b is_a is_b (inr d) = some_is_none (sym (sees_b.live d.generation d.live_is) ∙ is_b)
+
+-- why the banks were not opened
+pub cause_of : (e : OpenFault) (a b : Bank) → a.size ≡ b.size → (e ≡ OpenFault.Flash) ⊎ ((e ≡ OpenFault.Decayed) × ((c : Choice) → IsStore a b c → ⊥))
+    → IsCause e a b
+cause_of e a b sizes (inl is) = subst (λ (x : OpenFault). IsCause x a b) (sym is) sizes
+cause_of e a b sizes (inr (is, never)) = subst (λ (x : OpenFault). IsCause x a b) (sym is) (sizes, never)
 
 -- banks of which nothing is open
 pub ready_is_left : (live spare : Bank) (n : ℕ) (c : Choice) → AreReady live spare n → IsOneOf c (upto live.words n) → AreLeft live spare n c
@@ -163,11 +203,20 @@ copy_stands b0 b1 g n ok c r more head log records p one =
     let all = marked_log b0 b1 g n ok head log p in
     (numbered_of_head b1 g more all.0, n, settled_is_left b1 n c all.1 (one_of (all.2 ∙ records) one))
 
-counted_test : (b : Bool) → b ≡ true → b ≡ false → ⊥
-counted_test true e f = cc
-counted_test false e f = cc
+-- a copy whose mark is done is ready, beside the bank that was copied and retired
+pub copy_is_ready : (old retired b0 b1 : Bank) (g n : ℕ) → 0 < g → IsHeaded b0 g → IsSettled b0 n → Programs 2 0 true b0 b1 → Programs 0 0 true old retired
+    → b0.size ≡ old.size → AreReady b1 retired n
+copy_is_ready old retired b0 b1 g n more head log p q size =
+    let all = marked_log b0 b1 g n true head log p in
+    record {
+      sizes = p.size ∙ size ∙ sym q.size;
+      number = numbered_of_head b1 g more all.0;
+      mark = p.done refl;
+      log = all.1;
+      beside = inl (q.done refl);
+    }
 
-pub front_of_cells : (old new : Bank) (n : ℕ) → SameOutside (place n) (place n + 11) old new → upto new.words n ≡ upto old.words n
+pub front_of_cells : (old new : Bank) (n : ℕ) → SameOutside (place n) (place n + 12) old new → upto new.words n ≡ upto old.words n
 front_of_cells old new n same = upto-same old.words new.words n (λ i three le. same i (inl le))
 
 -- a log whose choice is what it stands for
@@ -182,6 +231,12 @@ own_left bank n c left = record {
   stands_next = inr refl;
 }
 
+pub n_within : (bank : Bank) (n : ℕ) (c : Choice) → IsLeft bank n c → n ≤ room bank.size
+n_within bank n c left = elim left.within [
+  | inl less ↦ omega (arith, less)
+  | inr both ↦ (let e = both.0 in omega (arith, e))
+]
+
 -- the cell before the first blank one is certain
 pub sure_zero : (bank : Bank) (n at : ℕ) (c : Choice) → at ≡ 0 → IsLeft bank n c → IsFoundBlank bank n at → IsClosable bank at c
 sure_zero bank n at c head_at left (inl (here, unmarked)) = subst (λ (k : ℕ). IsClosable bank k c) (sym here) (left, unmarked)
@@ -189,9 +244,9 @@ sure_zero bank n at c head_at left (inr next) = absurd (omega (arith, head_at, n
 
 pub sure_before : (old new : Bank) (n at : ℕ) (c : Choice) (ok : Bool) → 0 < at → IsLeft old n c → IsFoundBlank old n at → ok ≡ true
     → (ok ≡ true → (d : Choice) → IsLeft old (at - 1) d → IsSettled new (at - 1 + 1) × IsOneOf d (upto new.words (at - 1 + 1)))
-    → (IsCertain old.words (at - 1) → (ok ≡ true) × (new ≡ old)) → IsClosable new at c
+    → (IsCertain old.words (at - 1) → new ≡ old) → IsClosable new at c
 sure_before old new n at c ok more left (inl (here, unmarked)) is settled certain =
-    let same = (certain (left.certain (at - 1) (omega (arith, here, more)))).1 in
+    let same = certain (left.certain (at - 1) (omega (arith, here, more))) in
     subst (λ (b : Bank). IsClosable b at c) (sym same) (subst (λ (k : ℕ). IsClosable old k c) (sym here) (left, unmarked))
 sure_before old new n at c ok more left (inr next) is settled certain =
     let last : at - 1 ≡ n = omega (arith, next) in
@@ -200,25 +255,45 @@ sure_before old new n at c ok more left (inr next) is settled certain =
     let log : IsSettled new at = subst (λ (k : ℕ). IsSettled new k) back s.0 in
     (settled_is_left new at c log (subst (λ (k : ℕ). IsOneOf c (upto new.words k)) back s.1), λ fits. log.blank (mark at) (omega arith))
 
-pub torn_before : (old new : Bank) (n at : ℕ) (c : Choice) (ok : Bool) → 0 < at → IsLeft old n c → IsFoundBlank old n at → ok ≡ false
-    → (ok ≡ false → new ≡ old) → (IsCertain old.words (at - 1) → (ok ≡ true) × (new ≡ old)) → (0 < at) × IsLeft new (at - 1) c
-torn_before old new n at c ok more left (inl (here, unmarked)) is torn certain = absurd (counted_test ok (certain (left.certain (at - 1) (omega (
-  arith,
-  here,
-  more,
-)))).0 is)
-torn_before old new n at c ok more left (inr next) is torn certain =
+-- a log is left so without the cell before the first blank one, whose mark is not whole
+short : (bank : Bank) (n at : ℕ) (c : Choice) → 0 < at → IsLeft bank n c → IsFoundBlank bank n at → (bank.words (mark (at - 1)) ≡ Some 0 → ⊥)
+    → IsShort bank n at c
+short bank n at c more left (inl (here, unmarked)) never =
+    let back : at - 1 + 1 ≡ n = omega (arith, more, here) in
+    record {
+      more = more;
+      certain = λ k le. left.certain k (omega (arith, le, here));
+      within = omega (arith, here, n_within bank n c left);
+      stands = one_of (sym (uncounted_cell bank.words (at - 1) (none (left.certain (at - 1) (omega (arith, here, more)))))
+          ∙ ap (upto bank.words) back) left.stands;
+      left = left;
+    }
+  where
+    none : IsCertain bank.words (at - 1) → bank.words (mark (at - 1)) ≡ Some erased
+    none (inl both) = absurd (never both.0)
+    none (inr both) = both.0
+short bank n at c more left (inr next) never =
     let last : at - 1 ≡ n = omega (arith, next) in
-    (more, subst (λ (b : Bank). IsLeft b (at - 1) c) (sym (torn is)) (subst (λ (k : ℕ). IsLeft old k c) (sym last) left))
+    record {
+      more = more;
+      certain = λ k le. left.certain k (omega (arith, le, last));
+      within = omega (arith, last, n_within bank n c left);
+      stands = one_of (ap (upto bank.words) last) left.stands;
+      left = left;
+    }
 
--- a cell of which the fence was not begun is not left torn
-pub never_unfenced : (bank : Bank) (n at : ℕ) (c : Choice) (ok : Bool) → 0 < at → IsLeft bank n c → IsFoundBlank bank n at → ok ≡ false
-    → (bank.words (fence (at - 1)) ≡ Some erased → ok ≡ true) → (IsCertain bank.words (at - 1) → ok ≡ true) → bank.words (fence n) ≡ Some erased → ⊥
-never_unfenced bank n at c ok more left (inl (here, unmarked)) is unfenced certain blank =
-    counted_test ok (certain (left.certain (at - 1) (omega (arith, here, more)))) is
-never_unfenced bank n at c ok more left (inr next) is unfenced certain blank =
-    let last : at - 1 ≡ n = omega (arith, next) in
-    counted_test ok (unfenced (ap (λ (k : ℕ). bank.words (fence k)) last ∙ blank)) is
+pub torn_before : (old new : Bank) (n at : ℕ) (c : Choice) (ok : Bool) → 0 < at → IsLeft old n c → IsFoundBlank old n at → ok ≡ false
+    → (ok ≡ false → new ≡ old) → (ok ≡ false → old.words (mark (at - 1)) ≡ Some 0 → ⊥) → IsShort new n at c
+torn_before old new n at c ok more left found is torn unmarked =
+    subst (λ (b : Bank). IsShort b n at c) (sym (torn is)) (short old n at c more left found (unmarked is))
+
+-- a log of which the last two cells are decided is not left torn
+pub never_undecided : (bank : Bank) (n at : ℕ) (ok : Bool) → 0 < at → IsFoundBlank bank n at → ok ≡ false
+    → (ok ≡ false → IsDecided bank.words (at - 1) → ⊥) → AreDecided bank.words n → ⊥
+never_undecided bank n at ok more (inl (here, unmarked)) is undecided decided = undecided is (decided.1 (at - 1) (omega (arith, here, more)))
+never_undecided bank n at ok more (inr next) is undecided decided =
+    let last : n ≡ at - 1 = omega (arith, next) in
+    undecided is (subst (λ (k : ℕ). IsDecided bank.words k) last decided.0)
 
 pub left_before : (old new : Bank) (n at : ℕ) (c : Choice) → 0 < at → IsLeft old n c → IsFoundBlank old n at
     → ((d : Choice) → IsLeft old (at - 1) d → IsLeft new (at - 1) d) → (IsCertain old.words (at - 1) → new ≡ old) → IsLeft new n c
@@ -233,12 +308,6 @@ pub full_is_settled : (bank : Bank) (n : ℕ) (c : Choice) → IsLeft bank n c �
 full_is_settled bank n c left full = elim left.within [
   | inl less ↦ absurd (full less)
   | inr both ↦ (let e = both.0 in (record { firm = left.firm; certain = left.certain; blank = both.1; within = omega (arith, e) }, left.stands))
-]
-
-pub n_within : (bank : Bank) (n : ℕ) (c : Choice) → IsLeft bank n c → n ≤ room bank.size
-n_within bank n c left = elim left.within [
-  | inl less ↦ omega (arith, less)
-  | inr both ↦ (let e = both.0 in omega (arith, e))
 ]
 
 -- what the cells of the live bank are left as

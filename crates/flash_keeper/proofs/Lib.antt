@@ -1,3 +1,4 @@
+mod CheckLemmas
 mod BankLemmas
 mod CellLemmas
 mod CopyLemmas

@@ -1,15 +1,15 @@
--- A log after a program: a record that was written or cut short, a cell that was ended.
-use Rattle.std.proofs.Common.{◌≡◌, ◌⊎◌, inl, inr, ℕ, zero, suc, ◌+◌, ◌*◌, ◌/◌, ◌%◌, ◌^◌, ◌<◌, ◌≤◌, Bool, true, false, if◌then◌else◌, List}
-use Rattle.std.proofs.Common.{◌++◌, take, drop, length, Some, refl, sym, subst, ap, ◌∙◌, arith}
+-- A log after a program: a record that was written or cut short, a cell that was closed.
+use Rattle.std.proofs.Common.{◌≡◌, ◌⊎◌, inl, inr, ℕ, zero, suc, ◌+◌, ◌*◌, ◌<◌, ◌≤◌, Bool, true, false, if◌then◌else◌, List}
+use Rattle.std.proofs.Common.{◌++◌, take, drop, Some, refl, sym, subst, ap, ◌∙◌, arith}
 use Rattle.std.proofs.lemmas.List.{take-append-drop, take-take, drop-take}
 use Rattle.std.specs.FinMap.{insert}
 use Rattle.byteorder.specs.Endian.{big_bytes}
 use Rattle.plc_base.specs.Keeper.{Records}
 use Rattle.flash_keeper.specs.Flash.{Word, Bank, Programs, erased}
-use Rattle.flash_keeper.specs.Log.{place, mark, fence, room, value, slot_at, length_at, octets_from, words_for, octets_at, begun, counts, step, upto, IsFirm}
-use Rattle.flash_keeper.specs.Log.{IsWhole, IsOpen, IsBlankFrom, IsSettled, IsLeft, Choice, IsOneOf, SameOutside}
-use Rattle.flash_keeper.proofs.CellLemmas.{SameFront, firm-same, octets_from-same, octets_from-suc, upto-same, upto-suc}
-use Rattle.flash_keeper.proofs.CellLemmas.{all_certain-same, one_more_certain}
+use Rattle.flash_keeper.specs.Log.{place, mark, fence, close, room, value, slot_at, octets_from, octets_at, begun, counts, step, upto, upto_fence, IsFirm}
+use Rattle.flash_keeper.specs.Log.{IsWhole, HasRecord, IsOpen, IsBlankFrom, IsSettled, IsLeft, Choice, IsOneOf, SameOutside}
+use Rattle.flash_keeper.proofs.CellLemmas.{SameFront, SameRecord, firm-same, octets_from-same, octets_from-suc, upto-same, upto-suc, upto_fence-same}
+use Rattle.flash_keeper.proofs.CellLemmas.{upto_unfenced, upto_fenced, whole-same, record-same, all_certain-same, one_more_certain}
 
 pub take_sum : (n m : ℕ) (xs : List ℕ) → take (n + m) xs ≡ take n xs ++ take m (drop n xs)
 take_sum n m xs =
@@ -17,45 +17,11 @@ take_sum n m xs =
     let back = drop-take n m xs in
     sym (take-append-drop n (take (n + m) xs)) ∙ (λ i. front i ++ back i)
 
--- a cell of which slot, length and octets are programmed has that record
-pub whole_body : (w : ℕ → Word) (k slot : ℕ) (octets all : List ℕ) → w (place k) ≡ Some (slot * 65 + length octets) → 0 < slot
-    → slot < 2 ^ 32 → length octets ≤ 64
-    → ((i : ℕ) → i < words_for (length octets) → IsFirm (w (place k + 1 + i))) → octets_from w (place k + 1) (words_for (length octets)) ≡ take (8 * words_for
-    (length octets)) all
-    → take (length octets) all ≡ octets → IsWhole w k × (slot_at w k ≡ slot) × (octets_at w k ≡ octets)
-whole_body w k slot octets all head more small fits body spelled padded =
-    let number : value (w (place k)) ≡ slot * 65 + length octets = ap value head in
-    let slot_is : slot_at w k ≡ slot = ap (λ (n : ℕ). n / 65) number ∙ omega (arith, fits) in
-    let length_is : length_at w k ≡ length octets = ap (λ (n : ℕ). n % 65) number ∙ omega (arith, fits) in
-    let whole : IsWhole w k = record {
-      head = head ∙ ap (λ (n : ℕ). Some n) (sym number);
-      more = subst (λ (n : ℕ). 0 < n) (sym slot_is) more;
-      slot = subst (λ (n : ℕ). n < 2 ^ 32) (sym slot_is) small;
-      body = λ i le. body i (subst (λ (n : ℕ). i < words_for n) length_is le);
-    } in (
-      whole,
-      slot_is,
-      ap (λ (n : ℕ). take n (octets_from w (place k + 1) (words_for n))) length_is ∙ ap (take (length octets)) spelled
-          ∙ take-take (length octets) (8 * words_for (length octets)) all (omega arith) ∙ padded,
-    )
-
 pub is_less : (i to : ℕ) → i < to → i ≡ to → ⊥
 is_less i to le e = omega (arith, le, e)
 
-pub is_more : (i at : ℕ) → at < i → i ≡ at → ⊥
-is_more i at le e = omega (arith, le, e)
-
--- one of two records stays one of them where a record may be there or not
-pub one_of_step : (c : Choice) (b : Bool) (r x : Records) → IsOneOf c r → IsOneOf c x → IsOneOf c (if b then x else r)
-one_of_step c true r x h k = k
-one_of_step c false r x h k = h
-
 pub one_of : {c : Choice} {r x : Records} → x ≡ r → IsOneOf c r → IsOneOf c x
 one_of {c} {r} {x} e h = subst (λ (y : Records). IsOneOf c y) (sym e) h
-
--- the records with one cell more
-pub records_next : (old new : Bank) (n : ℕ) → SameFront old.words new.words (place n) → upto new.words (n + 1) ≡ step new.words n (upto old.words n)
-records_next old new n same = upto-suc new.words n ∙ ap (step new.words n) (upto-same old.words new.words n same)
 
 -- a record that is whole
 pub step_whole : (w : ℕ → Word) (k slot : ℕ) (octets : List ℕ) (r : Records) (b : Bool) → counts w k ≡ b → slot_at w k ≡ slot → octets_at w k ≡ octets
@@ -63,9 +29,9 @@ pub step_whole : (w : ℕ → Word) (k slot : ℕ) (octets : List ℕ) (r : Reco
 step_whole w k slot octets r b c s o = λ i. if c i then insert r (s i) (o i) else r
 
 -- What is left where nothing but the first cell after a settled log has changed.
-pub left_after : (old new : Bank) (n : ℕ) (c : Choice) → IsSettled old n → n < room old.size → SameOutside (place n) (place n + 11) old new
+pub left_after : (old new : Bank) (n : ℕ) (c : Choice) → IsSettled old n → n < room old.size → SameOutside (place n) (place n + 12) old new
     → new.torn ≡ old.torn → new.size ≡ old.size
-    → IsOpen new.words n → IsOneOf c (upto old.words n) → IsOneOf c (upto new.words (n + 1)) → IsLeft new n c
+    → IsOpen new.words n → IsOneOf c (upto old.words n) → IsOneOf c (upto_fence new.words n) → IsLeft new n c
 left_after old new n c s fits same torn size opened one next =
     let front : SameFront old.words new.words (place n) = λ i three le. same i (inl le) in
     record {
@@ -99,62 +65,59 @@ within_room m n P le p = elim (less_or_same m n le) [
 -- a settled log is one of which nothing is open
 pub settled_is_left : (bank : Bank) (n : ℕ) (c : Choice) → IsSettled bank n → IsOneOf c (upto bank.words n) → IsLeft bank n c
 settled_is_left bank n c s one =
-    let unmarked : bank.words (mark n) ≡ Some erased = s.blank (mark n) (omega arith) in
+    let unfenced : bank.words (fence n) ≡ Some erased = s.blank (fence n) (omega arith) in
     record {
       firm = s.firm;
       certain = s.certain;
-      last = inl unmarked;
+      last = inl (unfenced, s.blank (mark n) (omega arith));
       blank = λ i le. s.blank i (omega (arith, le));
       within = within_room (room bank.size) n (IsBlankFrom bank.words (place n)) s.within s.blank;
       stands = one;
-      stands_next = one_of (uncounted_cell bank.words n unmarked) one;
+      stands_next = one_of (upto_unfenced bank.words n unfenced) one;
     }
 
--- what the mark of the cell makes of a record that is whole
+pub counted_cell : (w : ℕ → Word) (n : ℕ) → counts w n ≡ true → upto w (n + 1) ≡ insert (upto w n) (slot_at w n) (octets_at w n)
+counted_cell w n counted = upto-suc w n ∙ step_whole w n (slot_at w n) (octets_at w n) (upto w n) true counted refl refl
+
+-- a cell after a settled log whose record is whole
 pub record BodyIs (old b : Bank) (n slot : ℕ) (octets : List ℕ) : Type 0 where
-  pub whole : IsWhole b.words n
-  pub slot_is : slot_at b.words n ≡ slot
-  pub octets_is : octets_at b.words n ≡ octets
+  pub record_is : HasRecord b.words n slot octets
   pub fenced : b.words (fence n) ≡ Some 0
   pub same : SameOutside (place n) (mark n) old b
   pub torn : b.torn ≡ old.torn
   pub size : b.size ≡ old.size
 
--- the body is there again where only the marks of the cell have changed
-pub body_stays : (old b new : Bank) (n slot : ℕ) (octets : List ℕ) → BodyIs old b n slot octets → ((i : ℕ) → i < mark n → new.words i ≡ b.words i)
-    → IsWhole new.words n × (slot_at new.words n ≡ slot) × (octets_at new.words n ≡ octets)
-body_stays old b new n slot octets body same =
-    let head : new.words (place n) ≡ b.words (place n) = same (place n) (omega arith) in
-    let size : length_at new.words n ≡ length_at b.words n = ap (λ (x : Word). value x % 65) head in
-    let few : words_for (length_at b.words n) ≤ 8 = omega arith in
-    let spelled = octets_from-same b.words new.words (place n + 1) (words_for (length_at b.words n)) (λ i le. same (place n + 1 + i) (omega (arith, le, few)))
-    in
-    let slot_is : slot_at new.words n ≡ slot_at b.words n = ap (λ (x : Word). value x / 65) head in (
-      record {
-        head = firm-same head body.whole.head;
-        more = subst (λ (m : ℕ). 0 < m) (sym slot_is) body.whole.more;
-        slot = subst (λ (m : ℕ). m < 2 ^ 32) (sym slot_is) body.whole.slot;
-        body = λ i le.
-            let le' : i < words_for (length_at b.words n) = subst (λ (m : ℕ). i < words_for m) size le in
-            firm-same (same (place n + 1 + i) (omega (arith, le', few))) (body.whole.body i le');
-      },
-      slot_is ∙ body.slot_is,
-      ap (λ (m : ℕ). take m (octets_from new.words (place n + 1) (words_for m))) size ∙ ap (take (length_at b.words n)) spelled ∙ body.octets_is,
-    )
+-- the records with a cell whose record is whole
+with_record : (w : ℕ → Word) (n slot : ℕ) (octets : List ℕ) (r : Records) → HasRecord w n slot octets → upto w n ≡ r
+    → insert (upto w n) (slot_at w n) (octets_at w n) ≡ insert r slot octets
+with_record w n slot octets r h e = λ i. insert (e i) (h.slot_is i) (h.octets_is i)
 
--- the body was cut short
-pub left_at_body : (old new : Bank) (n : ℕ) (c : Choice) → IsSettled old n → n < room old.size → SameOutside (place n) (mark n) old new → new.torn ≡ old.torn
-    → new.size ≡ old.size
-    → IsOneOf c (upto old.words n) → IsLeft new n c
-left_at_body old new n c s fits same torn size one =
+one_with_record : (w : ℕ → Word) (n slot : ℕ) (octets : List ℕ) (r : Records) (c : Choice) (b : Bool) → HasRecord w n slot octets → upto w n ≡ r
+    → IsOneOf c r → IsOneOf c (insert r slot octets) → IsOneOf c (if b then insert (upto w n) (slot_at w n) (octets_at w n) else upto w n)
+one_with_record w n slot octets r c true h e one two = one_of (with_record w n slot octets r h e) two
+one_with_record w n slot octets r c false h e one two = one_of e one
+
+-- the record or its fence was cut short
+pub left_at_body : (old new : Bank) (n slot : ℕ) (octets : List ℕ) (c : Choice) → IsSettled old n → n < room old.size → SameOutside (place n) (mark n) old new
+    → new.torn ≡ old.torn → new.size ≡ old.size → (new.words (fence n) ≡ Some erased) ⊎ HasRecord new.words n slot octets
+    → IsOneOf c (upto old.words n) → IsOneOf c (insert (upto old.words n) slot octets) → IsLeft new n c
+left_at_body old new n slot octets c s fits same torn size body one two =
     let unmarked : new.words (mark n) ≡ Some erased = same (mark n) (inr (omega arith)) ∙ s.blank (mark n) (omega arith) in
     let front : SameFront old.words new.words (place n) = λ i three le. same i (inl le) in
-    left_after old new n c s fits (λ i h. same i (wider i h)) torn size (inl unmarked) one
-    (one_of (uncounted_cell new.words n unmarked ∙ upto-same old.words new.words n front) one)
+    left_after old new n c s fits (λ i h. same i (wider i h)) torn size (opened body unmarked) one (next body (upto-same old.words new.words n front))
   where
-    wider : (i : ℕ) → (i < place n) ⊎ (place n + 11 ≤ i) → (i < place n) ⊎ (mark n ≤ i)
+    wider : (i : ℕ) → (i < place n) ⊎ (place n + 12 ≤ i) → (i < place n) ⊎ (mark n ≤ i)
     wider i (inl le) = inl le
     wider i (inr le) = inr (omega (arith, le))
+
+    opened : (new.words (fence n) ≡ Some erased) ⊎ HasRecord new.words n slot octets → new.words (mark n) ≡ Some erased → IsOpen new.words n
+    opened (inl unfenced) unmarked = inl (unfenced, unmarked)
+    opened (inr record_is) unmarked = inr (record_is.whole, inl unmarked)
+
+    next : (new.words (fence n) ≡ Some erased) ⊎ HasRecord new.words n slot octets → upto new.words n ≡ upto old.words n
+        → IsOneOf c (upto_fence new.words n)
+    next (inl unfenced) e = one_of (upto_unfenced new.words n unfenced ∙ e) one
+    next (inr record_is) e = one_with_record new.words n slot octets (upto old.words n) c (begun (new.words (fence n))) record_is e one two
 
 -- the mark was cut short, or is whole
 pub left_at_mark : (old b new : Bank) (n slot : ℕ) (octets : List ℕ) (c : Choice) (ok : Bool) → IsSettled old n → n < room old.size
@@ -162,14 +125,13 @@ pub left_at_mark : (old b new : Bank) (n slot : ℕ) (octets : List ℕ) (c : Ch
     → IsOneOf c (upto old.words n) → IsOneOf c (insert (upto old.words n) slot octets) → IsLeft new n c
 left_at_mark old b new n slot octets c ok s fits body p one two =
     let same : (i : ℕ) → i < mark n → new.words i ≡ b.words i = λ i le. p.others i (is_less i (mark n) le) in
-    let stays = body_stays old b new n slot octets body same in
+    let record_is = record-same b.words new.words n slot octets (λ i a le. same i (omega (arith, le))) body.record_is in
     let fenced : new.words (fence n) ≡ Some 0 = same (fence n) (omega arith) ∙ body.fenced in
     let front : SameFront old.words new.words (place n) = λ i three le. same i (omega (arith, le)) ∙ body.same i (inl le) in
-    left_after old new n c s fits (λ i h. outside i h) (p.torn ∙ body.torn) (p.size ∙ body.size) (inr (stays.0, fenced)) one
-    (one_of (records_next old new n front ∙ step_whole new.words n slot octets (upto old.words n) (counts new.words n) refl stays.1 stays.2)
-    (one_of_step c (counts new.words n) (upto old.words n) (insert (upto old.words n) slot octets) one two))
+    left_after old new n c s fits (λ i h. outside i h) (p.torn ∙ body.torn) (p.size ∙ body.size) (inr (record_is.whole, inr fenced)) one
+    (one_with_record new.words n slot octets (upto old.words n) c (begun (new.words (fence n))) record_is (upto-same old.words new.words n front) one two)
   where
-    outside : (i : ℕ) → (i < place n) ⊎ (place n + 11 ≤ i) → new.words i ≡ old.words i
+    outside : (i : ℕ) → (i < place n) ⊎ (place n + 12 ≤ i) → new.words i ≡ old.words i
     outside i (inl le) = p.others i (λ e. absurd (omega (arith, e, le))) ∙ body.same i (inl le)
     outside i (inr le) = p.others i (λ e. absurd (omega (arith, e, le))) ∙ body.same i (inr (omega (arith, le)))
 
@@ -178,45 +140,65 @@ pub records_marked : (old b new : Bank) (n slot : ℕ) (octets : List ℕ) → B
     → upto new.words (n + 1) ≡ insert (upto old.words n) slot octets
 records_marked old b new n slot octets body p =
     let same : (i : ℕ) → i < mark n → new.words i ≡ b.words i = λ i le. p.others i (is_less i (mark n) le) in
-    let stays = body_stays old b new n slot octets body same in
+    let record_is = record-same b.words new.words n slot octets (λ i a le. same i (omega (arith, le))) body.record_is in
     let front : SameFront old.words new.words (place n) = λ i three le. same i (omega (arith, le)) ∙ body.same i (inl le) in
-    records_next old new n front ∙ step_whole new.words n slot octets (upto old.words n) true (ap begun (p.done refl)) stays.1 stays.2
+    counted_cell new.words n (ap begun (p.done refl))
+    ∙ with_record new.words n slot octets (upto old.words n) record_is (upto-same old.words new.words n front)
 
 -- and the log is settled
 pub settled_marked : (old b new : Bank) (n slot : ℕ) (octets : List ℕ) → IsSettled old n → n < room old.size → BodyIs old b n slot octets
     → Programs (mark n) 0 true b new → IsSettled new (n + 1)
 settled_marked old b new n slot octets s fits body p =
     let same : (i : ℕ) → i < mark n → new.words i ≡ b.words i = λ i le. p.others i (is_less i (mark n) le) in
-    let stays = body_stays old b new n slot octets body same in
+    let whole = whole-same b.words new.words n (λ i a le. same i (omega (arith, le))) body.record_is.whole in
     let front : SameFront old.words new.words (place n) = λ i three le. same i (omega (arith, le)) ∙ body.same i (inl le) in
     record {
       firm = p.torn ∙ body.torn ∙ s.firm;
-      certain = one_more_certain new.words n (all_certain-same old.words new.words n front s.certain) (inl (p.done refl, stays.0));
+      certain = one_more_certain new.words n (all_certain-same old.words new.words n front s.certain) (inl (p.done refl, whole));
       blank = λ i le. p.others i (λ e. absurd (omega (arith, e, le))) ∙ body.same i (inr (omega (arith, le))) ∙ s.blank i (omega (arith, le));
       within = subst (λ (z : ℕ). n + 1 ≤ room z) (sym (p.size ∙ body.size)) (omega (arith, fits));
     }
 
--- a cell whose mark was not begun is closed, or that was cut short
-pub left_closed : (old new : Bank) (n : ℕ) (c : Choice) (ok : Bool) → n < room old.size → IsLeft old n c → old.words (mark n) ≡ Some erased
-    → Programs (place n) 0 ok old new → IsLeft new n c
-left_closed old new n c ok fits left unmarked p =
-    let front : SameFront old.words new.words (place n) = λ i three le. p.others i (λ e. absurd (omega (arith, e, le))) in
-    let still : new.words (mark n) ≡ Some erased = p.others (mark n) (λ e. absurd (omega (arith, e))) ∙ unmarked in
-    let stands = one_of (upto-same old.words new.words n front) left.stands in
+-- one word of the cell that is written is programmed, and no word of its record: the cell is left as what it then is
+still_left : (old new : Bank) (n : ℕ) (c : Choice) (at : ℕ) (ok : Bool) → close n ≤ at → at ≤ mark n → n < room old.size → IsLeft old n c
+    → Programs at 0 ok old new → IsOpen new.words n → IsOneOf c (upto_fence new.words n) → IsLeft new n c
+still_left old new n c at ok low high fits left p opened next =
+    let front : SameFront old.words new.words (place n) = λ i three le. p.others i (λ e. absurd (omega (arith, e, le, low))) in
     record {
       firm = p.torn ∙ left.firm;
       certain = all_certain-same old.words new.words n front left.certain;
-      last = inl still;
-      blank = λ i le. p.others i (λ e. absurd (omega (arith, e, le))) ∙ left.blank i le;
+      last = opened;
+      blank = λ i le. p.others i (λ e. absurd (omega (arith, e, le, high))) ∙ left.blank i le;
       within = inl (subst (λ (z : ℕ). n < room z) (sym p.size) fits);
-      stands = stands;
-      stands_next = one_of (uncounted_cell new.words n still) stands;
+      stands = one_of (upto-same old.words new.words n front) left.stands;
+      stands_next = next;
     }
 
+front_still : (old new : Bank) (n at : ℕ) (ok : Bool) → close n ≤ at → Programs at 0 ok old new → SameFront old.words new.words (place n)
+front_still old new n at ok low p = λ i three le. p.others i (λ e. absurd (omega (arith, e, le, low)))
+
+record_still : (old new : Bank) (n at : ℕ) (ok : Bool) → close n ≤ at → Programs at 0 ok old new → SameRecord old.words new.words n
+record_still old new n at ok low p = λ i a le. p.others i (λ e. absurd (omega (arith, e, le, low)))
+
+-- a cell whose mark was not begun is closed, or that was cut short
+pub left_closed : (old new : Bank) (n : ℕ) (c : Choice) (ok : Bool) → n < room old.size → IsLeft old n c → old.words (mark n) ≡ Some erased
+    → Programs (close n) 0 ok old new → IsLeft new n c
+left_closed old new n c ok fits left unmarked p =
+    let fence_is : new.words (fence n) ≡ old.words (fence n) = p.others (fence n) (λ e. absurd (omega (arith, e))) in
+    let mark_is : new.words (mark n) ≡ old.words (mark n) = p.others (mark n) (λ e. absurd (omega (arith, e))) in
+    still_left old new n c (close n) ok (omega arith) (omega arith) fits left p (opened left.last fence_is mark_is)
+    (one_of (upto_fence-same old.words new.words n (front_still old new n (close n) ok (omega arith) p) (record_still old new n (close n) ok (omega arith) p)
+    fence_is) left.stands_next)
+  where
+    opened : IsOpen old.words n → new.words (fence n) ≡ old.words (fence n) → new.words (mark n) ≡ old.words (mark n) → IsOpen new.words n
+    opened (inl both) f m = inl (f ∙ both.0, m ∙ both.1)
+    opened (inr (whole, inl e)) f m = inr (whole-same old.words new.words n (record_still old new n (close n) ok (omega arith) p) whole, inl (m ∙ e))
+    opened (inr (whole, inr e)) f m = inr (whole-same old.words new.words n (record_still old new n (close n) ok (omega arith) p) whole, inr (f ∙ e))
+
 pub settled_closed : (old new : Bank) (n : ℕ) (c : Choice) → n < room old.size → IsLeft old n c → old.words (mark n) ≡ Some erased
-    → Programs (place n) 0 true old new → IsSettled new (n + 1) × IsOneOf c (upto new.words (n + 1))
+    → Programs (close n) 0 true old new → IsSettled new (n + 1) × IsOneOf c (upto new.words (n + 1))
 settled_closed old new n c fits left unmarked p =
-    let front : SameFront old.words new.words (place n) = λ i three le. p.others i (λ e. absurd (omega (arith, e, le))) in
+    let front = front_still old new n (close n) true (omega arith) p in
     let still : new.words (mark n) ≡ Some erased = p.others (mark n) (λ e. absurd (omega (arith, e))) ∙ unmarked in (
       record {
         firm = p.torn ∙ left.firm;
@@ -227,62 +209,63 @@ settled_closed old new n c fits left unmarked p =
       one_of (uncounted_cell new.words n still ∙ upto-same old.words new.words n front) left.stands,
     )
 
--- a cell that may count at a reading has a whole record
-pub whole_of_open : (w : ℕ → Word) (n : ℕ) → IsOpen w n → counts w n ≡ true → IsWhole w n × (w (fence n) ≡ Some 0)
-whole_of_open w n (inl e) c = absurd (never (sym (ap begun e) ∙ c))
+-- a cell whose fence was begun has a whole record
+pub whole_of_fenced : (w : ℕ → Word) (n : ℕ) → IsOpen w n → begun (w (fence n)) ≡ true → IsWhole w n
+whole_of_fenced w n (inl both) b = absurd (never (sym (ap begun both.0) ∙ b))
   where
     never : false ≡ true → ⊥
     never e = cc
-whole_of_open w n (inr both) c = both
+whole_of_fenced w n (inr both) b = both.0
 
--- the body of a cell whose mark was begun
-pub body_of_left : (old : Bank) (n : ℕ) (c : Choice) → IsLeft old n c → counts old.words n ≡ true
-    → BodyIs old old n (slot_at old.words n) (octets_at old.words n)
-body_of_left old n c left counted =
-    let found = whole_of_open old.words n left.last counted in
-    record { whole = found.0; slot_is = refl; octets_is = refl; fenced = found.1; same = λ i h. refl; torn = refl; size = refl }
+-- its fence may be programmed again
+pub left_fenced : (old new : Bank) (n : ℕ) (c : Choice) (ok : Bool) → n < room old.size → IsLeft old n c → begun (old.words (fence n)) ≡ true
+    → Programs (fence n) 0 ok old new → IsLeft new n c
+left_fenced old new n c ok fits left fenced p =
+    let mark_is : new.words (mark n) ≡ old.words (mark n) = p.others (mark n) (λ e. absurd (omega (arith, e))) in
+    let record_is = record_still old new n (fence n) ok (omega arith) p in
+    let front = front_still old new n (fence n) ok (omega arith) p in
+    let whole = whole_of_fenced old.words n left.last fenced in
+    let was = one_of (sym (upto_fenced old.words n fenced)) left.stands_next in
+    still_left old new n c (fence n) ok (omega arith) (omega arith) fits left p
+    (inr (whole-same old.words new.words n record_is whole, opened left.last mark_is))
+    (one_with_record new.words n (slot_at old.words n) (octets_at old.words n) (upto old.words n) c (begun (new.words (fence n)))
+    (record-same old.words new.words n (slot_at old.words n) (octets_at old.words n) record_is (record { whole = whole; slot_is = refl; octets_is = refl }))
+    (upto-same old.words new.words n front) left.stands was)
+  where
+    opened : IsOpen old.words n → new.words (mark n) ≡ old.words (mark n) → (new.words (mark n) ≡ Some erased) ⊎ (new.words (fence n) ≡ Some 0)
+    opened (inl both) m = inl (m ∙ both.1)
+    opened (inr (whole, inl e)) m = inl (m ∙ e)
+    opened (inr (whole, inr e)) m = inr (p.kept e)
 
-pub counted_cell : (w : ℕ → Word) (n : ℕ) → counts w n ≡ true → upto w (n + 1) ≡ insert (upto w n) (slot_at w n) (octets_at w n)
-counted_cell w n counted = upto-suc w n ∙ step_whole w n (slot_at w n) (octets_at w n) (upto w n) true counted refl refl
-
--- its mark may be programmed again
-pub left_marked : (old new : Bank) (n : ℕ) (c : Choice) (ok : Bool) → n < room old.size → IsLeft old n c → counts old.words n ≡ true
+-- where its fence is whole its mark may be programmed again
+pub left_marked : (old new : Bank) (n : ℕ) (c : Choice) (ok : Bool) → n < room old.size → IsLeft old n c → old.words (fence n) ≡ Some 0
     → Programs (mark n) 0 ok old new → IsLeft new n c
-left_marked old new n c ok fits left counted p =
-    let front : SameFront old.words new.words (place n) = λ i three le. p.others i (λ e. absurd (omega (arith, e, le))) in
-    let body = body_of_left old n c left counted in
-    let same : (i : ℕ) → i < mark n → new.words i ≡ old.words i = λ i le. p.others i (is_less i (mark n) le) in
-    let stays = body_stays old old new n (slot_at old.words n) (octets_at old.words n) body same in
-    record {
-      firm = p.torn ∙ left.firm;
-      certain = all_certain-same old.words new.words n front left.certain;
-      last = inr (stays.0, same (fence n) (omega arith) ∙ body.fenced);
-      blank = λ i le. p.others i (λ e. absurd (omega (arith, e, le))) ∙ left.blank i le;
-      within = inl (subst (λ (z : ℕ). n < room z) (sym p.size) fits);
-      stands = one_of (upto-same old.words new.words n front) left.stands;
-      stands_next = one_of (records_next old new n front ∙ step_whole new.words n (slot_at old.words n) (octets_at old.words n) (upto old.words n) (counts
-          new.words n) refl stays.1 stays.2)
-          (one_of_step c (counts new.words n) (upto old.words n) (insert (upto old.words n) (slot_at old.words n) (octets_at old.words n)) left.stands (one_of
-          (sym (counted_cell old.words n counted)) left.stands_next));
-    }
+left_marked old new n c ok fits left fenced p =
+    let fence_is : new.words (fence n) ≡ old.words (fence n) = p.others (fence n) (λ e. absurd (omega (arith, e))) in
+    let record_is = record_still old new n (mark n) ok (omega arith) p in
+    let whole = whole_of_fenced old.words n left.last (ap begun fenced) in
+    still_left old new n c (mark n) ok (omega arith) (omega arith) fits left p
+    (inr (whole-same old.words new.words n record_is whole, inr (fence_is ∙ fenced)))
+    (one_of (upto_fence-same old.words new.words n (front_still old new n (mark n) ok (omega arith) p) record_is fence_is) left.stands_next)
 
-pub settled_again : (old new : Bank) (n : ℕ) (c : Choice) → n < room old.size → IsLeft old n c → counts old.words n ≡ true
+pub settled_again : (old new : Bank) (n : ℕ) (c : Choice) → n < room old.size → IsLeft old n c → old.words (fence n) ≡ Some 0
     → Programs (mark n) 0 true old new → IsSettled new (n + 1) × IsOneOf c (upto new.words (n + 1))
-settled_again old new n c fits left counted p =
-    let front : SameFront old.words new.words (place n) = λ i three le. p.others i (λ e. absurd (omega (arith, e, le))) in
-    let body = body_of_left old n c left counted in
-    let same : (i : ℕ) → i < mark n → new.words i ≡ old.words i = λ i le. p.others i (is_less i (mark n) le) in
-    let stays = body_stays old old new n (slot_at old.words n) (octets_at old.words n) body same in (
+settled_again old new n c fits left fenced p =
+    let front = front_still old new n (mark n) true (omega arith) p in
+    let record_is = record_still old new n (mark n) true (omega arith) p in
+    let fence_is : new.words (fence n) ≡ old.words (fence n) = p.others (fence n) (λ e. absurd (omega (arith, e))) in
+    let whole = whole-same old.words new.words n record_is (whole_of_fenced old.words n left.last (ap begun fenced)) in (
       record {
         firm = p.torn ∙ left.firm;
-        certain = one_more_certain new.words n (all_certain-same old.words new.words n front left.certain) (inl (p.done refl, stays.0));
+        certain = one_more_certain new.words n (all_certain-same old.words new.words n front left.certain) (inl (p.done refl, whole));
         blank = λ i le. p.others i (λ e. absurd (omega (arith, e, le))) ∙ left.blank i (omega (arith, le));
         within = subst (λ (z : ℕ). n + 1 ≤ room z) (sym p.size) (omega (arith, fits));
       },
-      one_of (records_marked old old new n (slot_at old.words n) (octets_at old.words n) body p ∙ sym (counted_cell old.words n counted)) left.stands_next,
+      one_of (counted_cell new.words n (ap begun (p.done refl)) ∙ sym (upto_fenced new.words n (ap begun (fence_is ∙ fenced)))
+          ∙ upto_fence-same old.words new.words n front record_is fence_is) left.stands_next,
     )
 
-firm_of : (x : Word) (n : ℕ) → x ≡ Some n → IsFirm x
+pub firm_of : (x : Word) (n : ℕ) → x ≡ Some n → IsFirm x
 firm_of x n e = e ∙ ap (λ (y : Word). Some (value y)) (sym e)
 
 -- one word more of the octets of a cell

@@ -1,13 +1,16 @@
 -- The end of a log as an opening reads it, and a cell that was written.
-use Rattle.std.proofs.Common.{◌≡◌, ◌⊎◌, inl, inr, ℕ, ◌+◌, ◌*◌, ◌^◌, ◌<◌, ◌≤◌, Bool, true, false, List, take, length, Some}
+use Rattle.std.proofs.Common.{◌≡◌, ◌⊎◌, inl, inr, ℕ, ◌+◌, ◌*◌, ◌/◌, ◌%◌, ◌^◌, ◌<◌, ◌≤◌, ◌==◌, Bool, true, false, List, take, length, Some}
 use Rattle.std.proofs.Common.{refl, sym, subst, ap, ◌∙◌, arith}
+use Rattle.std.proofs.lemmas.Bool.{cases_lt}
+use Rattle.std.proofs.lemmas.Bool.Decides.{nat_tests}
+use Rattle.flash_keeper.specs.Check.{check_of}
 use Rattle.flash_keeper.specs.Flash.{Bank, Programs, erased}
-use Rattle.flash_keeper.specs.Log.{place, mark, fence, room, slot_at, octets_from, words_for, octets_at, IsFirm, IsWhole, IsCertain, IsOpen, IsLeft}
-use Rattle.flash_keeper.specs.Log.{Choice, SameOutside}
-use Rattle.flash_keeper.proofs.CellLemmas.{firm-same, octets_from-same}
-use Rattle.flash_keeper.proofs.LogLemmas.{less_or_same, whole_body}
+use Rattle.flash_keeper.specs.Log.{place, mark, close, room, value, low_at, slot_at, octets_from, IsFirm, IsWhole}
+use Rattle.flash_keeper.specs.Log.{HasRecord, IsCertain, IsOpen, IsLeft, Choice, SameOutside}
+use Rattle.flash_keeper.proofs.CellLemmas.{record-same}
+use Rattle.flash_keeper.proofs.LogLemmas.{less_or_same, firm_of}
 
-true_is_false : (b : Bool) → b ≡ true → b ≡ false → ⊥
+pub true_is_false : (b : Bool) → b ≡ true → b ≡ false → ⊥
 true_is_false true e f = cc
 true_is_false false e f = cc
 
@@ -24,7 +27,7 @@ found_blank bank n cell c blank left le certain whole is = elim (less_or_same (n
 ]
   where
     unmarked : IsOpen bank.words n → (IsWhole bank.words n → blank ≡ false) → bank.words (mark n) ≡ Some erased
-    unmarked (inl e) apart = e
+    unmarked (inl e) apart = e.1
     unmarked (inr both) apart = absurd (true_is_false blank is (apart both.0))
 
 -- where no cell reads as blank the bank is full
@@ -42,53 +45,86 @@ found_none bank n cell count c left le fits full all = elim (less_or_same count 
     within (inl less) = omega (arith, less)
     within (inr both) = let e = both.0 in omega (arith, e)
 
--- slot, length and octets of a cell that were programmed, and then its fence
-pub body_written : (b0 b1 b2 b3 : Bank) (k slot n at : ℕ) (ok : Bool) (octets all : List ℕ) → at ≡ place k → n ≡ length octets
-    → Programs at (slot * 65 + n) true b0 b1 → SameOutside (place k + 1) (fence k) b1 b2 → Programs (at + 9) 0 ok b2 b3 → 0 < slot → slot < 2 ^ 32 → n ≤ 64
-    → octets_from b2.words (place k + 1) (words_for n) ≡ take (8 * words_for n) all → ((i : ℕ) → i < words_for n → IsFirm (b2.words (place k + 1 + i)))
-    → take (length octets) all ≡ octets
-    → IsWhole b3.words k × (slot_at b3.words k ≡ slot) × (octets_at b3.words k ≡ octets)
-body_written b0 b1 b2 b3 k slot n at ok octets all here long p same q more small fits spelled body padded =
-    let last : (i : ℕ) → i < fence k → b3.words i ≡ b2.words i = λ i le. q.others i (λ e. omega (arith, e, le, here)) in
-    let few : words_for n ≤ 8 = omega (arith, fits) in
-    let head : b3.words (place k) ≡ Some (slot * 65 + n) =
-    last (place k) (omega arith) ∙ same (place k) (inl (omega arith)) ∙ ap b1.words (sym here) ∙ p.done refl in
-    let spelled_last = octets_from-same b2.words b3.words (place k + 1) (words_for n) (λ i le. last (place k + 1 + i) (omega (arith, le, few))) ∙ spelled in
-    whole_body b3.words k slot octets all
-    (head ∙ ap (λ (m : ℕ). Some (slot * 65 + m)) long) more small (omega (arith, long, fits))
-    (λ i le.
-    let le' : i < words_for n = subst (λ (m : ℕ). i < words_for m) (sym long) le in
-    firm-same (last (place k + 1 + i) (omega (arith, le', few))) (body i le'))
-    (subst (λ (m : ℕ). octets_from b3.words (place k + 1) (words_for m) ≡ take (8 * words_for m) all) long spelled_last)
-    padded
+same_number : (n : ℕ) → (n == n) ≡ true
+same_number n = grind (arith, nat_tests)
+
+-- check, slot, length and octets of a cell that were programmed
+pub record_written : (b0 b1 b2 : Bank) (k slot at low check : ℕ) (octets all : List ℕ) → at ≡ place k → Programs at (check * 0x100000000 + low) true b0 b1
+    → SameOutside (place k + 1) (close k) b1 b2 → octets_from b2.words (place k + 1) 8 ≡ all → ((i : ℕ) → i < 8 → IsFirm (b2.words (place k + 1 + i)))
+    → low ≡ slot * 65 + length octets → check ≡ check_of low all → 0 < slot → slot < 2 ^ 16 → length octets ≤ 64 → take (length octets) all ≡ octets
+    → HasRecord b2.words k slot octets
+record_written b0 b1 b2 k slot at low check octets all here p same spelled firm low_is check_is more small fits padded =
+    let head : b2.words (place k) ≡ Some (check * 0x100000000 + low) = same (place k) (inl (omega arith)) ∙ ap b1.words (sym here) ∙ p.done refl in
+    let number : value (b2.words (place k)) ≡ check * 0x100000000 + low = ap value head in
+    let low_is' : low_at b2.words k ≡ low = ap (λ (n : ℕ). n % 0x100000000) number ∙ omega (arith, low_is, small, fits) in
+    let slot_is : slot_at b2.words k ≡ slot = ap (λ (n : ℕ). n / 65) low_is' ∙ omega (arith, low_is, fits) in
+    let long : low % 65 ≡ length octets = omega (arith, low_is, fits) in
+    let upper : value (b2.words (place k)) / 0x100000000 ≡ check = ap (λ (n : ℕ). n / 0x100000000) number ∙ omega (arith, low_is, small, fits) in
+    record {
+      whole = record {
+        readable = record { head = firm_of (b2.words (place k)) (check * 0x100000000 + low) head; body = firm };
+        more = subst (λ (n : ℕ). 0 < n) (sym slot_is) more;
+        slot = subst (λ (n : ℕ). n < 2 ^ 16) (sym slot_is) small;
+        check = (λ i. upper i == check_of (low_is' i) (spelled i)) ∙ ap (λ (n : ℕ). n == check_of low all) check_is ∙ same_number (check_of low all);
+      };
+      slot_is = slot_is;
+      octets_is = (λ i. take (low_is' i % 65) (spelled i)) ∙ ap (λ (n : ℕ). take n all) long ∙ padded;
+    }
+
+-- a record stays where a later word of its cell is programmed
+pub record_stays : (b0 b1 : Bank) (k at slot word : ℕ) (ok : Bool) (octets : List ℕ) → close k ≤ at → Programs at word ok b0 b1
+    → HasRecord b0.words k slot octets
+    → HasRecord b1.words k slot octets
+record_stays b0 b1 k at slot word ok octets high p record_is =
+    record-same b0.words b1.words k slot octets (λ i a le. p.others i (λ e. omega (arith, e, le, high))) record_is
 
 -- a program of the first word of a cell changes no other cell
-pub outside_head : (b0 b1 : Bank) (k at word : ℕ) (ok : Bool) → at ≡ place k → Programs at word ok b0 b1 → SameOutside (place k) (mark k) b0 b1
+pub outside_head : (b0 b1 : Bank) (k at word : ℕ) (ok : Bool) → at ≡ place k → Programs at word ok b0 b1 → SameOutside (place k) (close k) b0 b1
 outside_head b0 b1 k at word ok here p = outside
   where
-    outside : (i : ℕ) → (i < place k) ⊎ (mark k ≤ i) → b1.words i ≡ b0.words i
+    outside : (i : ℕ) → (i < place k) ⊎ (close k ≤ i) → b1.words i ≡ b0.words i
     outside i (inl le) = p.others i (λ e. omega (arith, e, le, here))
     outside i (inr le) = p.others i (λ e. omega (arith, e, le, here))
 
-pub outside_body : (b0 b1 b2 : Bank) (k at word : ℕ) (ok : Bool) → at ≡ place k → Programs at word ok b0 b1 → SameOutside (place k + 1) (fence k) b1 b2
-    → SameOutside (place k) (mark k) b0 b2
+pub outside_body : (b0 b1 b2 : Bank) (k at word : ℕ) (ok : Bool) → at ≡ place k → Programs at word ok b0 b1 → SameOutside (place k + 1) (close k) b1 b2
+    → SameOutside (place k) (close k) b0 b2
 outside_body b0 b1 b2 k at word ok here p same = outside
   where
-    outside : (i : ℕ) → (i < place k) ⊎ (mark k ≤ i) → b2.words i ≡ b0.words i
+    outside : (i : ℕ) → (i < place k) ⊎ (close k ≤ i) → b2.words i ≡ b0.words i
     outside i (inl le) = same i (inl (omega (arith, le))) ∙ p.others i (λ e. omega (arith, e, le, here))
-    outside i (inr le) = same i (inr (omega (arith, le))) ∙ p.others i (λ e. omega (arith, e, le, here))
+    outside i (inr le) = same i (inr le) ∙ p.others i (λ e. omega (arith, e, le, here))
 
-pub outside_fence : (b0 b1 b2 : Bank) (k at : ℕ) (ok : Bool) → at ≡ place k → SameOutside (place k) (mark k) b0 b1 → Programs (at + 9) 0 ok b1 b2
+-- nor does one of its fence
+pub outside_fence : (b0 b1 b2 : Bank) (k at : ℕ) (ok : Bool) → at ≡ place k → SameOutside (place k) (close k) b0 b1 → Programs (at + 10) 0 ok b1 b2
     → SameOutside (place k) (mark k) b0 b2
 outside_fence b0 b1 b2 k at ok here same p = outside
   where
     outside : (i : ℕ) → (i < place k) ⊎ (mark k ≤ i) → b2.words i ≡ b0.words i
     outside i (inl le) = p.others i (λ e. omega (arith, e, le, here)) ∙ same i (inl le)
-    outside i (inr le) = p.others i (λ e. omega (arith, e, le, here)) ∙ same i (inr le)
+    outside i (inr le) = p.others i (λ e. omega (arith, e, le, here)) ∙ same i (inr (omega (arith, le)))
 
-pub wider : (b0 b1 : Bank) (k : ℕ) → SameOutside (place k) (mark k) b0 b1 → SameOutside (place k) (place k + 11) b0 b1
+pub wider : (b0 b1 : Bank) (k : ℕ) → SameOutside (place k) (mark k) b0 b1 → SameOutside (place k) (place k + 12) b0 b1
 wider b0 b1 k same = outside
   where
-    outside : (i : ℕ) → (i < place k) ⊎ (place k + 11 ≤ i) → b1.words i ≡ b0.words i
+    outside : (i : ℕ) → (i < place k) ⊎ (place k + 12 ≤ i) → b1.words i ≡ b0.words i
     outside i (inl le) = same i (inl le)
     outside i (inr le) = same i (inr (omega (arith, le)))
+
+-- a bank of which a cell was found to have decayed is not left by any puts
+pub never_decayed : (bank : Bank) (n cell : ℕ) (c : Choice) (found : Bool) → IsLeft bank n c → found ≡ true
+    → (IsWhole bank.words cell → found ≡ false) → (bank.words (mark cell) ≡ Some erased → found ≡ false) → ⊥
+never_decayed bank n cell c found left is whole unmarked = true_is_false found is (elim (cases_lt cell n) [
+  | inl before ↦ by_certain (left.certain cell before)
+  | inr from ↦ (elim (less_or_same cell n from) [
+    | inl after ↦ unmarked (left.blank (mark cell) (omega (arith, after)))
+    | inr here ↦ by_open (subst (λ (k : ℕ). IsOpen bank.words k) here left.last)
+  ])
+])
+  where
+    by_certain : IsCertain bank.words cell → found ≡ false
+    by_certain (inl both) = whole both.1
+    by_certain (inr both) = unmarked both.0
+
+    by_open : IsOpen bank.words cell → found ≡ false
+    by_open (inl both) = unmarked both.1
+    by_open (inr both) = whole both.0

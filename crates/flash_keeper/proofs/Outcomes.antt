@@ -13,6 +13,10 @@ pub one_ok : {T E P R : Type 0} (r : Result T E) → (P → R) → OnOk r P → 
 one_ok (Ok x) f p = f p
 one_ok (Err e) f p = tt
 
+pub both_ok : {T E P Q R : Type 0} (r : Result T E) → (P → Q → R) → OnOk r P → OnOk r Q → OnOk r R
+both_ok (Ok x) f p q = f p q
+both_ok (Err e) f p q = tt
+
 pub one_err : {T E P R : Type 0} (r : Result T E) → (P → R) → OnErr r P → OnErr r R
 one_err (Ok x) f p = tt
 one_err (Err e) f p = f p
@@ -28,10 +32,6 @@ one_if_ok (Err e) f p = tt
 pub both_if_ok : {T E : Type 0} {P Q R : T → Type 0} (r : Result T E) → ((x : T) → P x → Q x → R x) → IfOk r P → IfOk r Q → IfOk r R
 both_if_ok (Ok x) f p q = f x p q
 both_if_ok (Err e) f p q = tt
-
-pub under_ok : {T E A B : Type 0} (P : T → Type 0) (r : Result T E) → (A → IfOk r P × B) → IfOk r (λ x. A → P x × B)
-under_ok P (Ok x) f = f
-under_ok P (Err e) f = tt
 
 pub one_if_err : {T E : Type 0} {P Q : E → Type 0} (r : Result T E) → ((e : E) → P e → Q e) → IfErr r P → IfErr r Q
 one_if_err (Ok x) f p = tt

@@ -1,11 +1,11 @@
 -- Two banks: the live one and the spare one, and what an opening may find in them.
-use Rattle.std.specs.Prelude.{◌≡◌, ◌<◌, ◌⊎◌, ℕ, ◌+◌, Bool, true, false, List, Option, Some, None, refl}
+use Rattle.std.specs.Prelude.{◌≡◌, ◌<◌, ◌⊎◌, ℕ, Bool, true, false, List, Option, Some, None, refl}
 use Rattle.std.specs.Bool.{OnFalse}
 use Rattle.std.specs.Coded.{Coded, code_by, coded×, coded_ℕ, coded_list}
 use Rattle.std.specs.FinMap.{code, insert}
 use Rattle.plc_base.specs.Keeper.{Records, Store, store_code}
 use Rattle.flash_keeper.specs.Flash.{Bank, erased, head_word}
-use Rattle.flash_keeper.specs.Log.{Choice, IsOneOf, IsSettled, IsLeft, upto}
+use Rattle.flash_keeper.specs.Log.{Choice, IsOneOf, IsSettled, IsLeft, HasDecayed, room, upto, upto_fence}
 use Rattle.flash_keeper.specs.declared.keeper.OpenFault.{OpenFault}
 
 -- A bank whose head is whole but for its mark.
@@ -62,11 +62,27 @@ pub record IsSeen (bank : Bank) (seen : Option ℕ) : Type 0 where
   pub live : (generation : ℕ) → IsLive bank generation → seen ≡ Some generation
   pub dead : IsDead bank → seen ≡ None
 
--- Why banks were not opened: a program or an erase failed; neither is firmly a live one; they have different sizes.
+-- A store of which bits have changed by themselves: a live bank with a cell that has decayed, beside one that no reading takes for a live one.
+pub record IsDecayed (live spare : Bank) : Type 0 where
+  pub generation : ℕ
+  pub live_is : IsLive live generation
+  pub spare_is : IsDead spare
+  pub cell : ℕ
+  pub within : cell < room live.size
+  pub decayed : HasDecayed live.words cell
+
+-- two banks, in either order, that an opening may be given: a store, or one of which bits have changed by themselves
+abbrev pub MayOpen : Bank → Bank → Type 0
+MayOpen first second = ((c : Choice) × IsStore first second c) ⊎ IsDecayed first second ⊎ IsDecayed second first
+
+-- Why banks were not opened: a program or an erase failed; neither is firmly a live one; they have different sizes; they are not a store as it
+-- was written, whatever records it may have stood for.
 abbrev pub IsCause : OpenFault → Bank → Bank → Type 0
 IsCause OpenFault.Flash first second = first.size ≡ second.size
 IsCause OpenFault.NoStore first second = (first.size ≡ second.size) × ((generation : ℕ) → (IsLive first generation ⊎ IsLive second generation) → ⊥)
 IsCause OpenFault.Sizes first second = first.size ≡ second.size → ⊥
+IsCause OpenFault.Small first second = ⊥
+IsCause OpenFault.Decayed first second = (first.size ≡ second.size) × ((choice : Choice) → IsStore first second choice → ⊥)
 
 -- What a keeper over flash holds, and what an opening of its banks may find in place of its records.
 pub record FlashStore : Type 0 where
@@ -93,9 +109,9 @@ abbrev pub IsLeftBy : FlashStore → ℕ → List ℕ → Bool → FlashStore �
 IsLeftBy old slot octets true new = new.left ≡ insert old.store.records slot octets
 IsLeftBy old slot octets false new = (new.left ≡ old.left) ⊎ (new.left ≡ old.store.records) ⊎ (new.left ≡ insert old.store.records slot octets)
 
--- the records that the first n cells of a live bank stand for, and those with one cell more
+-- the records that the first n cells of a live bank stand for, and those with one cell more if its fence was begun
 abbrev pub choice_of : Bank → ℕ → Choice
-choice_of bank n = record { old = upto bank.words n; new = upto bank.words (n + 1) }
+choice_of bank n = record { old = upto bank.words n; new = upto_fence bank.words n }
 
 -- what holds of a keeper: its banks are left so, and nothing is open where it has not failed
 pub record IsKept (live spare : Bank) (n : ℕ) (failed : Bool) : Type 0 where

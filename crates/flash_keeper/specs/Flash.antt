@@ -9,9 +9,9 @@ Word = Option ℕ
 abbrev pub erased : ℕ
 erased = 0xFFFFFFFFFFFFFFFF
 
--- the first word of a bank with a store of this layout: a name, and the number 2 of the layout
+-- the first word of a bank with a store of this layout: a name, and the number 3 of the layout
 abbrev pub head_word : ℕ
-head_word = 0x464C4B4545500002
+head_word = 0x464C4B4545500003
 
 -- A bank. torn: an erase of it was cut short and none was done since. Its words are then what they were when that erase began, or what was
 -- programmed since. But each bit that is 0 rises to 1 at a moment of its own in an erase, so each word reads as anything, anew each time.
@@ -26,7 +26,7 @@ pub record Bank : Type 0 where
 pub record Reads (bank : Bank) (at word : ℕ) : Type 0 where
   pub firm : bank.torn ≡ false → (n : ℕ) → bank.words at ≡ Some n → word ≡ n
   -- The premise on torn erases: a word that was 0 when the erase began does not read as the head of a store. To do so, of its 64 bits the
-  -- 19 that are 1 in the head would have to rise before each of the other 45: one order in 8 * 10^15, if each bit rises at a moment of its own.
+  -- 20 that are 1 in the head would have to rise before each of the other 44: one order in 1.9 * 10^16, if each bit rises at a moment of its own.
   pub from_zero : bank.torn ≡ true → bank.words at ≡ Some 0 → word ≡ head_word → ⊥
 
 -- A word may be programmed where it is erased; to 0, so that each bit is programmed, in any state, also after a torn erase.
@@ -49,3 +49,7 @@ pub record Erases (ok : Bool) (old new : Bank) : Type 0 where
   pub cut : ok ≡ false
       → (new ≡ old) ⊎ ((new.torn ≡ true) × (new.words ≡ old.words)) ⊎ ((new.torn ≡ false) × ((i : ℕ) → new.words i ≡ Some erased))
   pub size : new.size ≡ old.size
+
+-- a bank of which each word is erased
+abbrev pub IsBlank : Bank → Type 0
+IsBlank bank = (i : ℕ) → bank.words i ≡ Some erased

@@ -1,3 +1,4 @@
+pub mod Check
 pub mod Flash
 pub mod Log
 pub mod Banks

@@ -1,26 +1,32 @@
 //! The cells of a log in a bank.
-ghost use Rattle.std.specs.Prelude.{◌≡◌, ◌<◌, ◌≤◌, ◌+◌, ◌^◌, ◌/◌, true, false, OnOk, OnErr, IfOk, Some, take, drop, length, ℕ, ◌*◌};
+ghost use Rattle.std.specs.Prelude.{◌≡◌, ◌<◌, ◌≤◌, ◌+◌, ◌^◌, ◌/◌, true, false, OnOk, OnErr, IfOk, is_ok, Some, ◌⊎◌, take, drop, length, ℕ, ◌*◌};
 ghost use Rattle.std.specs.Prelude.{◌-◌};
 ghost use Rattle.std.specs.FinMap as map;
 ghost use Rattle.std.specs.FinMap.{insert};
 ghost use Rattle.byteorder.specs.Endian.{big_bytes};
-ghost use Rattle.flash_keeper.specs.Flash.{erased};
-ghost use Rattle.flash_keeper.specs.Log.{place, mark, fence, room, slot_at, length_at, octets_from, octets_at, words_for, IsWhole, AreCertain, IsBlankFrom};
-ghost use Rattle.flash_keeper.specs.Log.{IsSettled, IsLeft, SameOutside, Choice, IsOneOf, SameBelow, IsOpen, IsFoundBlank, IsClosable, upto};
-ghost use Rattle.flash_keeper.specs.Log.{holds, holds_later, counts, kept, IsFirm, IsCertain};
+ghost use Rattle.flash_keeper.specs.Flash.{erased, Programs};
+ghost use Rattle.flash_keeper.specs.Log.{place, mark, fence, close, room, low_at, slot_at, length_at, octets_from, octets_at, IsWhole, AreCertain};
+ghost use Rattle.flash_keeper.specs.Log.{IsSettled, IsLeft, SameOutside, Choice, IsOneOf, SameBelow, IsOpen, IsFoundBlank, IsClosable, upto, IsBlankFrom};
+ghost use Rattle.flash_keeper.specs.Log.{holds, holds_later, counts, kept, begun, IsFirm, IsCertain, IsReadable, has_check, body_at, HasDecayed};
+ghost use Rattle.flash_keeper.specs.Log.{IsShort, IsDecided, AreDecided, HasRecord};
 
-use crate::bank::{ERASED, FlashBank};
+use crate::bank::{ERASED, FlashBank, is_programmed};
+use crate::check::check_of;
 use byteorder::{BigEndian, ByteOrder};
 use plc_base::{Failed, Record};
 
 /// How many words a bank begins with, before its cells.
 const BEFORE: usize = 3;
 /// How many words a cell has.
-const CELL: usize = 11;
+const CELL: usize = 12;
+/// Which word of a cell says that it never counts.
+const CLOSE: usize = 9;
 /// Which word of a cell says that its record is whole.
-const FENCE: usize = 9;
+const FENCE: usize = 10;
 /// Which word of a cell is its mark.
-const MARK: usize = 10;
+const MARK: usize = 11;
+/// What the upper half of a word counts.
+const HALF: u64 = 0x1_0000_0000;
 
 // The place of the first word of a cell.
 fn place_of(cell: usize) -> usize
@@ -44,7 +50,16 @@ fn is_marked<B: FlashBank>(bank: &B, cell: usize) -> bool
     requires certain { IsCertain (B.bank bank.now).words cell }
     ensures { result ≡ counts (B.bank bank.now).words cell }
 {
-    bank.read(place_of(cell) + MARK) == 0
+    is_programmed(bank.read(place_of(cell) + MARK))
+}
+
+// 65 times the slot of a cell, and its length.
+fn low_of<B: FlashBank>(bank: &B, cell: usize) -> u32
+    requires within { cell < room (B.bank bank.now).size }
+    requires firm { (B.bank bank.now).torn ≡ false }
+    ensures { IsFirm ((B.bank bank.now).words (place cell)) → result ≡ low_at (B.bank bank.now).words cell }
+{
+    (bank.read(place_of(cell)) % HALF) as u32
 }
 
 // The slot of a cell whose record is whole.
@@ -54,7 +69,7 @@ fn slot_of<B: FlashBank>(bank: &B, cell: usize) -> u32
     requires whole { IsWhole (B.bank bank.now).words cell }
     ensures { result ≡ slot_at (B.bank bank.now).words cell }
 {
-    (bank.read(place_of(cell)) / 65) as u32
+    low_of(bank, cell) / 65
 }
 
 // How many octets a cell has whose record is whole.
@@ -64,7 +79,7 @@ fn length_of<B: FlashBank>(bank: &B, cell: usize) -> usize
     requires whole { IsWhole (B.bank bank.now).words cell }
     ensures { result ≡ length_at (B.bank bank.now).words cell }
 {
-    (bank.read(place_of(cell)) % 65) as usize
+    (low_of(bank, cell) % 65) as usize
 }
 
 // The octets of a word, the highest first.
@@ -76,23 +91,30 @@ fn octets_of(word: u64) -> [u8; 8]
     octets
 }
 
-// The octets of the first words of a cell's record.
-fn body_of<B: FlashBank>(bank: &B, cell: usize, words: usize) -> Record
+// The octets of a cell, with those after its record.
+fn body_of<B: FlashBank>(bank: &B, cell: usize) -> Record
     requires within { cell < room (B.bank bank.now).size }
     requires firm { (B.bank bank.now).torn ≡ false }
-    requires few { words ≤ 8 }
-    requires whole { IsWhole (B.bank bank.now).words cell }
-    requires body { words ≤ words_for (length_at (B.bank bank.now).words cell) }
-    ensures octets { result ≡ octets_from (B.bank bank.now).words (place cell + 1) words }
-    ensures length { length result ≡ 8 * words }
+    ensures octets { IsReadable (B.bank bank.now).words cell → result ≡ body_at (B.bank bank.now).words cell }
+    ensures length { length result ≡ 64 }
 {
     let mut octets = Record::new();
     let mut i = 0;
-    while i < words {
+    while i < 8 {
         octets.append(&octets_of(bank.read(place_of(cell) + 1 + i)));
         i += 1;
     }
     octets
+}
+
+// Whether the check of a cell is that of its slot, its length and its octets.
+fn is_right<B: FlashBank>(bank: &B, cell: usize) -> bool
+    requires within { cell < room (B.bank bank.now).size }
+    requires firm { (B.bank bank.now).torn ≡ false }
+    ensures { IsReadable (B.bank bank.now).words cell → result ≡ has_check (B.bank bank.now).words cell }
+{
+    let check = bank.read(place_of(cell)) / HALF;
+    check == u64::from(check_of(low_of(bank, cell), body_of(bank, cell).octets()))
 }
 
 /// The record of a cell that has a whole one.
@@ -103,8 +125,7 @@ pub fn record_of<B: FlashBank>(bank: &B, cell: usize) -> Record
     ensures { result ≡ octets_at (B.bank bank.now).words cell }
 {
     let length = length_of(bank, cell);
-    let octets = body_of(bank, cell, (length + 7) / 8);
-    Record::from_octets(&octets.octets()[..length])
+    Record::from_octets(&body_of(bank, cell).octets()[..length])
 }
 
 // Whether a certain cell counts and has this slot.
@@ -155,11 +176,11 @@ fn is_replaced<B: FlashBank>(bank: &B, cell: usize, cells: usize, slot: u32) -> 
     false
 }
 
-// The octets of a record in whole words, the last one filled with zeros.
+// The octets of a record, and after them erased ones.
 fn padded(octets: &Record) -> [u8; 64]
     ensures { take (length octets.now) result ≡ octets.now }
 {
-    let mut all = [0; 64];
+    let mut all = [0xFF; 64];
     all[..octets.len()].copy_from_slice(octets.octets());
     all
 }
@@ -172,7 +193,93 @@ fn word_at(octets: &[u8; 64], at: usize) -> u64
     BigEndian::read_u64(&octets[at..at + 8])
 }
 
-// Programs slot, length and octets of a cell, and its fence.
+// Whether a word reads as erased.
+fn reads_erased<B: FlashBank>(bank: &B, at: usize) -> bool
+    requires within { at < (B.bank bank.now).size }
+    requires firm { (B.bank bank.now).torn ≡ false }
+    ensures { (B.bank bank.now).words at ≡ Some erased → result ≡ true }
+{
+    bank.read(at) == ERASED
+}
+
+// Whether each word of the first cell after a settled log reads as erased.
+fn is_clean<B: FlashBank>(bank: &B, cell: usize) -> bool
+    requires within { cell < room (B.bank bank.now).size }
+    requires firm { (B.bank bank.now).torn ≡ false }
+    ensures { IsSettled (B.bank bank.now) cell → result ≡ true }
+{
+    let mut i = 0;
+    while i < CELL {
+        if !reads_erased(bank, place_of(cell) + i) {
+            return false;
+        }
+        i += 1;
+    }
+    true
+}
+
+// Programs a word that is erased.
+fn program_word<B: FlashBank>(bank: &mut B, at: usize, word: u64) -> Result<(), Failed>
+    requires within { at < (B.bank bank.old).size }
+    requires firm { (B.bank bank.old).torn ≡ false }
+    requires blank { (B.bank bank.old).words at ≡ Some erased }
+    ensures programs { Programs at word (is_ok result) (B.bank bank.old) (B.bank bank.new) }
+    ensures failed { OnErr result (B.has_failed bank.new ≡ true) }
+{
+    if word == ERASED {
+        return Ok(());
+    }
+    bank.program(at, word)
+}
+
+// Programs the octets of a cell.
+fn write_words<B: FlashBank>(bank: &mut B, cell: usize, octets: &[u8; 64]) -> Result<(), Failed>
+    requires within { cell < room (B.bank bank.old).size }
+    requires firm { (B.bank bank.old).torn ≡ false }
+    requires blank { IsBlankFrom (B.bank bank.old).words (place cell + 1) }
+    ensures octets { OnOk result (octets_from (B.bank bank.new).words (place cell + 1) 8 ≡ octets.now) }
+    ensures body { OnOk result ((i : ℕ) → i < 8 → IsFirm ((B.bank bank.new).words (place cell + 1 + i))) }
+    ensures same { SameOutside (place cell + 1) (close cell) (B.bank bank.old) (B.bank bank.new) }
+    ensures firm { (B.bank bank.new).torn ≡ false }
+    ensures size { (B.bank bank.new).size ≡ (B.bank bank.old).size }
+    ensures failed { OnErr result (B.has_failed bank.new ≡ true) }
+{
+    let at = place_of(cell) + 1;
+    let mut i = 0;
+    while i < 8 {
+        program_word(bank, at + i, word_at(octets, 8 * i))?;
+        i += 1;
+    }
+    Ok(())
+}
+
+// Programs check, slot, length and octets of a cell.
+fn write_record<B: FlashBank>(
+    bank: &mut B,
+    cell: usize,
+    slot: u32,
+    octets: &Record,
+) -> Result<(), Failed>
+    requires within { cell < room (B.bank bank.old).size }
+    requires firm { (B.bank bank.old).torn ≡ false }
+    requires more { 0 < slot }
+    requires fits { slot < 2 ^ 16 }
+    requires blank { IsBlankFrom (B.bank bank.old).words (place cell) }
+    ensures record { OnOk result (HasRecord (B.bank bank.new).words cell slot octets.now) }
+    ensures same { SameOutside (place cell) (close cell) (B.bank bank.old) (B.bank bank.new) }
+    ensures firm { (B.bank bank.new).torn ≡ false }
+    ensures size { (B.bank bank.new).size ≡ (B.bank bank.old).size }
+    ensures failed { OnErr result (B.has_failed bank.new ≡ true) }
+{
+    let length = octets.len();
+    let low = slot * 65 + length as u32;
+    let all = padded(octets);
+    let check = check_of(low, &all);
+    bank.program(place_of(cell), check as u64 * HALF + low as u64)?;
+    write_words(bank, cell, &all)
+}
+
+// Programs a record into a cell, and the fence.
 fn write_body<B: FlashBank>(
     bank: &mut B,
     cell: usize,
@@ -182,49 +289,18 @@ fn write_body<B: FlashBank>(
     requires within { cell < room (B.bank bank.old).size }
     requires firm { (B.bank bank.old).torn ≡ false }
     requires more { 0 < slot }
+    requires fits { slot < 2 ^ 16 }
     requires blank { IsBlankFrom (B.bank bank.old).words (place cell) }
-    ensures whole { OnOk result (IsWhole (B.bank bank.new).words cell) }
-    ensures slot { OnOk result (slot_at (B.bank bank.new).words cell ≡ slot) }
-    ensures octets { OnOk result (octets_at (B.bank bank.new).words cell ≡ octets.now) }
+    ensures record { OnOk result (HasRecord (B.bank bank.new).words cell slot octets.now) }
     ensures fence { OnOk result ((B.bank bank.new).words (fence cell) ≡ Some 0) }
+    ensures left { ((B.bank bank.new).words (fence cell) ≡ Some erased) ⊎ HasRecord (B.bank bank.new).words cell slot octets.now }
     ensures same { SameOutside (place cell) (mark cell) (B.bank bank.old) (B.bank bank.new) }
     ensures firm { (B.bank bank.new).torn ≡ false }
     ensures size { (B.bank bank.new).size ≡ (B.bank bank.old).size }
     ensures failed { OnErr result (B.has_failed bank.new ≡ true) }
 {
-    let at = place_of(cell);
-    let length = octets.len();
-    let all = padded(octets);
-    bank.program(at, slot as u64 * 65 + length as u64)?;
-    write_words(bank, cell, (length + 7) / 8, &all)?;
-    bank.program(at + FENCE, 0)
-}
-
-// Programs the octets of a cell, in so many words.
-fn write_words<B: FlashBank>(
-    bank: &mut B,
-    cell: usize,
-    words: usize,
-    octets: &[u8; 64],
-) -> Result<(), Failed>
-    requires within { cell < room (B.bank bank.old).size }
-    requires firm { (B.bank bank.old).torn ≡ false }
-    requires few { words ≤ 8 }
-    requires blank { IsBlankFrom (B.bank bank.old).words (place cell + 1) }
-    ensures octets { OnOk result (octets_from (B.bank bank.new).words (place cell + 1) words ≡ take (8 * words) octets.now) }
-    ensures body { OnOk result ((i : ℕ) → i < words → IsFirm ((B.bank bank.new).words (place cell + 1 + i))) }
-    ensures same { SameOutside (place cell + 1) (fence cell) (B.bank bank.old) (B.bank bank.new) }
-    ensures firm { (B.bank bank.new).torn ≡ false }
-    ensures size { (B.bank bank.new).size ≡ (B.bank bank.old).size }
-    ensures failed { OnErr result (B.has_failed bank.new ≡ true) }
-{
-    let at = place_of(cell) + 1;
-    let mut i = 0;
-    while i < words {
-        bank.program(at + i, word_at(octets, 8 * i))?;
-        i += 1;
-    }
-    Ok(())
+    write_record(bank, cell, slot, octets)?;
+    bank.program(place_of(cell) + FENCE, 0)
 }
 
 /// Writes a record into the first cell after a settled log: the record, and the mark that makes it count.
@@ -236,20 +312,23 @@ pub fn write_cell<B: FlashBank>(
 ) -> Result<(), Failed>
     requires settled { IsSettled (B.bank bank.old) cell }
     requires more { 0 < slot }
+    requires fits { slot < 2 ^ 16 }
     requires room { cell < room (B.bank bank.old).size }
     ensures settled { OnOk result (IsSettled (B.bank bank.new) (cell + 1)) }
     ensures records { OnOk result (upto (B.bank bank.new).words (cell + 1) ≡ insert (upto (B.bank bank.old).words cell) slot octets.now) }
     ensures left { OnErr result ((c : Choice) → IsOneOf c (upto (B.bank bank.old).words cell)
         → IsOneOf c (insert (upto (B.bank bank.old).words cell) slot octets.now)
         → IsLeft (B.bank bank.new) cell c) }
-    ensures same { SameOutside (place cell) (place cell + 11) (B.bank bank.old) (B.bank bank.new) }
+    ensures same { SameOutside (place cell) (place cell + 12) (B.bank bank.old) (B.bank bank.new) }
     ensures firm { (B.bank bank.new).torn ≡ false }
     ensures size { (B.bank bank.new).size ≡ (B.bank bank.old).size }
     ensures failed { OnErr result (B.has_failed bank.new ≡ true) }
 {
-    let at = place_of(cell);
+    if !is_clean(bank, cell) {
+        return Err(Failed);
+    }
     write_body(bank, cell, slot, octets)?;
-    bank.program(at + MARK, 0)
+    bank.program(place_of(cell) + MARK, 0)
 }
 
 // Copies a cell of the log in a bank to the end of the log in another one, unless a later one of the first cells has its slot.
@@ -282,6 +361,9 @@ fn copy_cell<B: FlashBank>(
     let slot = slot_of(from, cell);
     if is_replaced(from, cell, cells, slot) {
         return Ok(next);
+    }
+    if !is_right(from, cell) {
+        return Err(Failed);
     }
     let octets = record_of(from, cell);
     write_cell(to, next, slot, &octets)?;
@@ -317,9 +399,9 @@ fn is_blank<B: FlashBank>(bank: &B, cell: usize) -> bool
     requires firm { (B.bank bank.now).torn ≡ false }
     ensures certain { IsCertain (B.bank bank.now).words cell → result ≡ false }
     ensures whole { IsWhole (B.bank bank.now).words cell → result ≡ false }
-    ensures blank { (B.bank bank.now).words (place cell) ≡ Some erased → result ≡ true }
+    ensures blank { (B.bank bank.now).words (place cell) ≡ Some erased → (B.bank bank.now).words (close cell) ≡ Some erased → result ≡ true }
 {
-    bank.read(place_of(cell)) == ERASED
+    bank.read(place_of(cell)) == ERASED && bank.read(place_of(cell) + CLOSE) == ERASED
 }
 
 /// The first cell that reads as blank: the first one after those that are certain, or the next one.
@@ -339,35 +421,65 @@ pub fn first_blank<B: FlashBank>(bank: &B) -> usize
     count
 }
 
-// Whether a cell reads as closed, so that its mark was not begun.
-fn is_closed<B: FlashBank>(bank: &B, cell: usize) -> bool
+/// Whether a cell that counts has another check than that of its slot, its length and its octets.
+fn is_decayed<B: FlashBank>(bank: &B, cell: usize) -> bool
     requires within { cell < room (B.bank bank.now).size }
     requires firm { (B.bank bank.now).torn ≡ false }
-    ensures closed { (B.bank bank.now).words (place cell) ≡ Some 0 → result ≡ true }
-    ensures unmarked { result ≡ true → IsOpen (B.bank bank.now).words cell → (B.bank bank.now).words (mark cell) ≡ Some erased }
-    ensures uncertain { result ≡ true → IsWhole (B.bank bank.now).words cell → ⊥ }
+    ensures whole { IsWhole (B.bank bank.now).words cell → result ≡ false }
+    ensures unmarked { (B.bank bank.now).words (mark cell) ≡ Some erased → result ≡ false }
+    ensures decayed { HasDecayed (B.bank bank.now).words cell → result ≡ true }
 {
-    bank.read(place_of(cell)) == 0
+    reads_marked(bank, cell) && !is_right(bank, cell)
 }
 
-// Whether the fence of a cell reads as not begun, so that its mark was not either.
+/// Whether a cell of a bank has decayed: whether bits of its slot, its length, its octets or its check have changed by themselves.
+pub fn has_decayed<B: FlashBank>(bank: &B) -> bool
+    requires firm { (B.bank bank.now).torn ≡ false }
+    ensures left { result ≡ true → (n : ℕ) (c : Choice) → IsLeft (B.bank bank.now) n c → ⊥ }
+    ensures decayed { result ≡ false → (k : ℕ) → k < room (B.bank bank.now).size → HasDecayed (B.bank bank.now).words k → ⊥ }
+{
+    let count = room_of(bank);
+    let mut cell = 0;
+    while cell < count {
+        if is_decayed(bank, cell) {
+            return true;
+        }
+        cell += 1;
+    }
+    false
+}
+
+// Whether the close of a cell reads as begun.
+fn is_shut<B: FlashBank>(bank: &B, cell: usize) -> bool
+    requires within { cell < room (B.bank bank.now).size }
+    requires firm { (B.bank bank.now).torn ≡ false }
+    ensures closed { (B.bank bank.now).words (close cell) ≡ Some 0 → result ≡ true }
+    ensures begun { result ≡ true → (B.bank bank.now).words (close cell) ≡ Some erased → ⊥ }
+{
+    bank.read(place_of(cell) + CLOSE) != ERASED
+}
+
+// Whether the fence of a cell reads as not begun, or its record is not whole, so that its mark was not begun either.
 fn is_unfenced<B: FlashBank>(bank: &B, cell: usize) -> bool
     requires within { cell < room (B.bank bank.now).size }
     requires firm { (B.bank bank.now).torn ≡ false }
     ensures erased { (B.bank bank.now).words (fence cell) ≡ Some erased → result ≡ true }
+    ensures begun { result ≡ false → begun ((B.bank bank.now).words (fence cell)) ≡ true }
     ensures unmarked { result ≡ true → IsOpen (B.bank bank.now).words cell → (B.bank bank.now).words (mark cell) ≡ Some erased }
 {
-    bank.read(place_of(cell) + FENCE) == ERASED
+    bank.read(place_of(cell) + FENCE) == ERASED || !is_right(bank, cell)
 }
 
-// Whether the mark of a cell reads as programmed.
+// Whether the mark of a cell reads as begun.
 fn reads_marked<B: FlashBank>(bank: &B, cell: usize) -> bool
     requires within { cell < room (B.bank bank.now).size }
     requires firm { (B.bank bank.now).torn ≡ false }
     ensures counted { result ≡ true → counts (B.bank bank.now).words cell ≡ true }
     ensures marked { (B.bank bank.now).words (mark cell) ≡ Some 0 → result ≡ true }
+    ensures unmarked { (B.bank bank.now).words (mark cell) ≡ Some erased → result ≡ false }
+    ensures fenced { result ≡ true → IsOpen (B.bank bank.now).words cell → (B.bank bank.now).words (fence cell) ≡ Some 0 }
 {
-    bank.read(place_of(cell) + MARK) == 0
+    bank.read(place_of(cell) + MARK) != ERASED
 }
 
 /// Closes a cell whose mark was not begun, so that it never counts.
@@ -377,23 +489,22 @@ pub fn close_cell<B: FlashBank>(bank: &mut B, cell: usize) -> Result<(), Failed>
     ensures settled { OnOk result ((c : Choice) → IsLeft (B.bank bank.old) cell c → (B.bank bank.old).words (mark cell) ≡ Some erased
         → IsSettled (B.bank bank.new) (cell + 1) × IsOneOf c (upto (B.bank bank.new).words (cell + 1))) }
     ensures left { (c : Choice) → IsLeft (B.bank bank.old) cell c → (B.bank bank.old).words (mark cell) ≡ Some erased → IsLeft (B.bank bank.new) cell c }
-    ensures same { (B.bank bank.old).words (place cell) ≡ Some 0 → B.bank bank.new ≡ B.bank bank.old }
+    ensures same { (B.bank bank.old).words (close cell) ≡ Some 0 → B.bank bank.new ≡ B.bank bank.old }
     ensures heads { SameBelow 3 (B.bank bank.old) (B.bank bank.new) }
     ensures firm { (B.bank bank.new).torn ≡ false }
     ensures size { (B.bank bank.new).size ≡ (B.bank bank.old).size }
     ensures failed { OnErr result (B.has_failed bank.new ≡ true) }
 {
-    bank.program(place_of(cell), 0)
+    bank.program(place_of(cell) + CLOSE, 0)
 }
 
-// Makes a cell count for good whose mark was begun.
+// Makes a cell count for good whose fence is whole.
 fn mark_cell<B: FlashBank>(bank: &mut B, cell: usize) -> Result<(), Failed>
     requires firm { (B.bank bank.old).torn ≡ false }
     requires within { cell < room (B.bank bank.old).size }
-    requires marked { counts (B.bank bank.old).words cell ≡ true }
-    ensures settled { OnOk result ((c : Choice) → IsLeft (B.bank bank.old) cell c
+    ensures settled { OnOk result ((c : Choice) → IsLeft (B.bank bank.old) cell c → (B.bank bank.old).words (fence cell) ≡ Some 0
         → IsSettled (B.bank bank.new) (cell + 1) × IsOneOf c (upto (B.bank bank.new).words (cell + 1))) }
-    ensures left { (c : Choice) → IsLeft (B.bank bank.old) cell c → IsLeft (B.bank bank.new) cell c }
+    ensures left { (c : Choice) → IsLeft (B.bank bank.old) cell c → (B.bank bank.old).words (fence cell) ≡ Some 0 → IsLeft (B.bank bank.new) cell c }
     ensures same { (B.bank bank.old).words (mark cell) ≡ Some 0 → B.bank bank.new ≡ B.bank bank.old }
     ensures heads { SameBelow 3 (B.bank bank.old) (B.bank bank.new) }
     ensures firm { (B.bank bank.new).torn ≡ false }
@@ -403,38 +514,56 @@ fn mark_cell<B: FlashBank>(bank: &mut B, cell: usize) -> Result<(), Failed>
     bank.program(place_of(cell) + MARK, 0)
 }
 
-// Makes a cell certain that may be the last one. It answers false where the cell counts at some readings and not at others, as far as
-// one reading shows: then it stays as it is.
+// Makes the fence of a cell whole, which was begun.
+fn fence_cell<B: FlashBank>(bank: &mut B, cell: usize) -> Result<(), Failed>
+    requires firm { (B.bank bank.old).torn ≡ false }
+    requires within { cell < room (B.bank bank.old).size }
+    requires fenced { begun ((B.bank bank.old).words (fence cell)) ≡ true }
+    ensures left { (c : Choice) → IsLeft (B.bank bank.old) cell c → IsLeft (B.bank bank.new) cell c }
+    ensures fence { OnOk result ((B.bank bank.new).words (fence cell) ≡ Some 0) }
+    ensures heads { SameBelow 3 (B.bank bank.old) (B.bank bank.new) }
+    ensures firm { (B.bank bank.new).torn ≡ false }
+    ensures size { (B.bank bank.new).size ≡ (B.bank bank.old).size }
+    ensures failed { OnErr result (B.has_failed bank.new ≡ true) }
+{
+    bank.program(place_of(cell) + FENCE, 0)
+}
+
+// Makes a cell certain that may be the last one: where its mark reads as begun, or its fence does and its close does not, it counts from then
+// on; where its fence does not, it never does. It answers false where fence and close read as begun and the mark does not: then it stays as it
+// is, since the mark may read otherwise the next time.
 fn settle_last<B: FlashBank>(bank: &mut B, cell: usize) -> Result<bool, Failed>
     requires firm { (B.bank bank.old).torn ≡ false }
     requires within { cell < room (B.bank bank.old).size }
     ensures settled { IfOk result (λ ok. ok ≡ true → (c : Choice) → IsLeft (B.bank bank.old) cell c
         → IsSettled (B.bank bank.new) (cell + 1) × IsOneOf c (upto (B.bank bank.new).words (cell + 1))) }
     ensures torn { IfOk result (λ ok. ok ≡ false → B.bank bank.new ≡ B.bank bank.old) }
-    ensures unfenced { (B.bank bank.old).words (fence cell) ≡ Some erased → IfOk result (λ ok. ok ≡ true) }
-    ensures certain { IsCertain (B.bank bank.old).words cell → (IfOk result (λ ok. ok ≡ true)) × (B.bank bank.new ≡ B.bank bank.old) }
+    ensures unmarked { IfOk result (λ ok. ok ≡ false → (B.bank bank.old).words (mark cell) ≡ Some 0 → ⊥) }
+    ensures undecided { IfOk result (λ ok. ok ≡ false → IsDecided (B.bank bank.old).words cell → ⊥) }
+    ensures certain { IsCertain (B.bank bank.old).words cell → B.bank bank.new ≡ B.bank bank.old }
     ensures left { OnErr result ((c : Choice) → IsLeft (B.bank bank.old) cell c → IsLeft (B.bank bank.new) cell c) }
     ensures heads { SameBelow 3 (B.bank bank.old) (B.bank bank.new) }
     ensures firm { (B.bank bank.new).torn ≡ false }
     ensures size { (B.bank bank.new).size ≡ (B.bank bank.old).size }
     ensures failed { OnErr result (B.has_failed bank.new ≡ true) }
 {
-    if is_closed(bank, cell) {
-        close_cell(bank, cell)?;
-        return Ok(true);
-    }
     if reads_marked(bank, cell) {
         mark_cell(bank, cell)?;
         return Ok(true);
     }
-    if !is_unfenced(bank, cell) {
+    if is_unfenced(bank, cell) {
+        close_cell(bank, cell)?;
+        return Ok(true);
+    }
+    if is_shut(bank, cell) {
         return Ok(false);
     }
-    close_cell(bank, cell)?;
+    fence_cell(bank, cell)?;
+    mark_cell(bank, cell)?;
     Ok(true)
 }
 
-/// Makes certain the cell before the first one that reads as blank, at `at`. It answers false where that cell counts at some readings and not
+/// Makes certain the cell before the first one that reads as blank, at `at`. It answers false where that cell may count at some readings and not
 /// at others: then it stays as it is.
 pub fn settle_before<B: FlashBank>(bank: &mut B, at: usize) -> Result<bool, Failed>
     requires firm { (B.bank bank.old).torn ≡ false }
@@ -442,9 +571,9 @@ pub fn settle_before<B: FlashBank>(bank: &mut B, at: usize) -> Result<bool, Fail
     ensures sure { IfOk result (λ ok. ok ≡ true → (n : ℕ) (c : Choice) → IsLeft (B.bank bank.old) n c → IsFoundBlank (B.bank bank.old) n at
         → IsClosable (B.bank bank.new) at c) }
     ensures torn { IfOk result (λ ok. ok ≡ false → (n : ℕ) (c : Choice) → IsLeft (B.bank bank.old) n c → IsFoundBlank (B.bank bank.old) n at
-        → (0 < at) × IsLeft (B.bank bank.new) (at - 1) c) }
-    ensures unfenced { IfOk result (λ ok. ok ≡ false → (n : ℕ) (c : Choice) → IsLeft (B.bank bank.old) n c → IsFoundBlank (B.bank bank.old) n at
-        → (B.bank bank.old).words (fence n) ≡ Some erased → ⊥) }
+        → IsShort (B.bank bank.new) n at c) }
+    ensures undecided { IfOk result (λ ok. ok ≡ false → (n : ℕ) (c : Choice) → IsLeft (B.bank bank.old) n c → IsFoundBlank (B.bank bank.old) n at
+        → AreDecided (B.bank bank.old).words n → ⊥) }
     ensures left { OnErr result ((n : ℕ) (c : Choice) → IsLeft (B.bank bank.old) n c → IsFoundBlank (B.bank bank.old) n at → IsLeft (B.bank bank.new) n c) }
     ensures heads { SameBelow 3 (B.bank bank.old) (B.bank bank.new) }
     ensures firm { (B.bank bank.new).torn ≡ false }

@@ -1,14 +1,15 @@
 //! The keeper.
-ghost use Rattle.std.specs.Prelude.{◌≡◌, ◌<◌, ◌+◌, ℕ, is_ok, OnOk, OnErr, IfOk, IfErr, None, true, ◌⊎◌};
+ghost use Rattle.std.specs.Prelude.{◌≡◌, ◌<◌, ◌≤◌, ◌^◌, ◌/◌, ℕ, is_ok, OnOk, OnErr, IfOk, IfErr, None, true, ◌⊎◌};
 ghost use Rattle.std.specs.FinMap.{insert};
 ghost use Rattle.std.specs.FinMap as map;
 ghost use Rattle.plc_base.specs.Keeper.{IsSlot, Puts};
-ghost use Rattle.flash_keeper.specs.Log.{Choice};
-ghost use Rattle.flash_keeper.specs.Banks.{AreLeft, IsStore, IsCause, IsOpened, IsLeftBy, FlashStore};
+ghost use Rattle.flash_keeper.specs.Log.{Choice, room};
+ghost use Rattle.flash_keeper.specs.Banks.{AreLeft, IsStore, IsCause, IsOpened, IsLeftBy, IsDecayed, MayOpen, FlashStore};
+ghost use Rattle.flash_keeper.specs.Flash.{IsBlank};
 
 use crate::bank::FlashBank;
-use crate::cells::find;
-use crate::pair::{Pair, generation_of};
+use crate::cells::{find, has_decayed, room_of};
+use crate::pair::{Pair, generation_of, wipe};
 use plc_base::{Failed, Keeper, Record};
 use std::marker::Model;
 use thiserror::Error;
@@ -25,6 +26,12 @@ pub enum OpenFault {
     /// One bank has more words than the other.
     #[error("the banks have different sizes")]
     Sizes,
+    /// A bank has fewer than two cells for each slot.
+    #[error("the banks are too small for so many slots")]
+    Small,
+    /// Bits of a cell have changed by themselves since it was written.
+    #[error("a record has decayed")]
+    Decayed,
 }
 
 /// A keeper over two banks of NOR flash.
@@ -39,8 +46,8 @@ pub struct FlashKeeper<B: FlashBank + Drop> {
 }
 
 impl<B: FlashBank + Drop> Model for FlashKeeper<B> {
-    ghost use Rattle.std.specs.Prelude.{◌+◌, None};
-    ghost use Rattle.flash_keeper.specs.Log.{upto};
+    ghost use Rattle.std.specs.Prelude.{None};
+    ghost use Rattle.flash_keeper.specs.Log.{upto, upto_fence};
     ghost use Rattle.flash_keeper.specs.Banks.{FlashStore, flash_store_code, IsKept};
 
     ghost Value = { FlashStore };
@@ -49,26 +56,33 @@ impl<B: FlashBank + Drop> Model for FlashKeeper<B> {
 
     ghost view = { λ k. record {
       store = record { records = upto (B.bank k.pair.live).words k.pair.next; faults = k.faults; known_cut = None; listed = None };
-      left = upto (B.bank k.pair.live).words (k.pair.next + 1);
+      left = upto_fence (B.bank k.pair.live).words k.pair.next;
     } };
 
     ghost invariant = { λ k. IsKept (B.bank k.pair.live) (B.bank k.pair.spare) k.pair.next k.failed };
 }
 
 impl<B: FlashBank + Drop> FlashKeeper<B> {
-    /// Retires and erases two banks, and makes them a store with no record: for a device that has none yet, since all that they held is lost.
-    /// It gives the banks back with its fault: [`OpenFault::Sizes`] where they have different sizes, and then nothing was done, or
-    /// [`OpenFault::Flash`] where a program or an erase failed, and then they are to be formatted again.
+    /// Retires and erases two banks, and makes them a store with no record, for records of so many slots: for a device that has none yet, since
+    /// all that they held is lost.
+    ///
+    /// It gives the banks back with its fault: [`OpenFault::Sizes`] where they have different sizes, or [`OpenFault::Small`] where a bank has fewer
+    /// than two cells for each slot, and then nothing was done; or [`OpenFault::Flash`] where a program or an erase failed, and then they are to
+    /// be formatted again. A bank with hardly more cells than records would be erased at each put, and worn out in months.
     #[tactic(auto, using(crate::proofs::KeeperLemmas::kept_of_ready, crate::proofs::KeeperLemmas::kept_of_left, crate::proofs::KeeperLemmas::nothing_else))]
-    pub fn format(first: B, second: B) -> Result<FlashKeeper<B>, (OpenFault, B, B)>
+    pub fn format(first: B, second: B, slots: usize) -> Result<FlashKeeper<B>, (OpenFault, B, B)>
         ensures ok { IfOk result (λ keeper. keeper
             ≡ record { store = record { records = map.empty; faults = 0; known_cut = None; listed = None }; left = map.empty }) }
         ensures sizes { IfOk result (λ keeper. (B.bank first).size ≡ (B.bank second).size) }
-        ensures fault { IfErr result (λ e. IsCause e.0 (B.bank first) (B.bank second)) }
+        ensures cells { IfOk result (λ keeper. slots ≤ room (B.bank first).size / 2) }
+        ensures fault { IfErr result (λ e. ((e.0 ≡ OpenFault.Small) × (room (B.bank first).size / 2 < slots)) ⊎ IsCause e.0 (B.bank first) (B.bank second)) }
         ensures failed { IfErr result (λ e. e.0 ≡ OpenFault.Flash → (B.has_failed e.1 ≡ true) ⊎ (B.has_failed e.2 ≡ true)) }
     {
         if first.words() != second.words() {
             return Err((OpenFault::Sizes, first, second));
+        }
+        if room_of(&first) / 2 < slots {
+            return Err((OpenFault::Small, first, second));
         }
         let mut pair = Pair {
             live: first,
@@ -86,16 +100,23 @@ impl<B: FlashBank + Drop> FlashKeeper<B> {
         })
     }
 
-    // Settles two banks, of which the first one read as live.
+    // Settles two banks, of which the first one read as live, unless a cell of it has decayed.
     #[tactic(auto, using(crate::proofs::KeeperLemmas::kept_of_ready, crate::proofs::KeeperLemmas::kept_of_left, crate::proofs::KeeperLemmas::nothing_else))]
     fn settled(live: B, spare: B, generation: u64) -> Result<FlashKeeper<B>, (OpenFault, B, B)>
-        requires left { (c : Choice) × (n : ℕ) × AreLeft (B.bank live) (B.bank spare) n c }
+        requires left { ((c : Choice) × (n : ℕ) × AreLeft (B.bank live) (B.bank spare) n c) ⊎ IsDecayed (B.bank live) (B.bank spare) }
         requires sizes { (B.bank live).size ≡ (B.bank spare).size }
         ensures opened { IfOk result (λ keeper. (n : ℕ) (c : Choice) → AreLeft (B.bank live) (B.bank spare) n c → IsOpened c keeper) }
-        ensures fault { IfErr result (λ e. e.0 ≡ OpenFault.Flash) }
-        ensures failed { IfErr result (λ e. (B.has_failed e.1 ≡ true) ⊎ (B.has_failed e.2 ≡ true)) }
+        ensures sizes { (B.bank live).size ≡ (B.bank spare).size }
+        ensures fault { IfErr result (λ e. (e.0 ≡ OpenFault.Flash) ⊎ ((e.0 ≡ OpenFault.Decayed)
+            × ((n : ℕ) (c : Choice) → AreLeft (B.bank live) (B.bank spare) n c → ⊥))) }
+        ensures decayed { IsDecayed (B.bank live) (B.bank spare) → (IfOk result (λ keeper. ⊥)) × IfErr result (λ e. (e.0 ≡ OpenFault.Decayed)
+            × (B.bank e.1 ≡ B.bank live) × (B.bank e.2 ≡ B.bank spare)) }
+        ensures failed { IfErr result (λ e. e.0 ≡ OpenFault.Flash → (B.has_failed e.1 ≡ true) ⊎ (B.has_failed e.2 ≡ true)) }
         ensures left { IfErr result (λ e. (n : ℕ) (c : Choice) → AreLeft (B.bank live) (B.bank spare) n c → IsStore (B.bank e.1) (B.bank e.2) c) }
     {
+        if has_decayed(&live) {
+            return Err((OpenFault::Decayed, live, spare));
+        }
         let mut pair = Pair {
             live,
             spare,
@@ -121,12 +142,18 @@ impl<B: FlashBank + Drop> FlashKeeper<B> {
     /// - [`OpenFault::NoStore`] where neither bank reads as a live one. Neither then is one firmly (`fault`): the banks have no store, or
     ///   power failed in the mark of a copy and, in the opening after that, in the program that retires this copy. Open them again in that case:
     ///   what it finds is right;
-    /// - [`OpenFault::Sizes`] where the banks have different sizes.
+    /// - [`OpenFault::Sizes`] where the banks have different sizes;
+    /// - [`OpenFault::Decayed`] where a cell that counts has another check than that of its slot, its length and its octets: bits have changed by
+    ///   themselves, and the banks are no store as it was written (`fault`). Nothing was programmed. It answers that, and nothing else, for each
+    ///   live bank with such a cell beside a retired one (`decayed`). What is left may lack a counter: format the banks, and join again.
+    #[tactic(auto, using(crate::proofs::BankLemmas::decayed_is_seen))]
     pub fn open(first: B, second: B) -> Result<FlashKeeper<B>, (OpenFault, B, B)>
-        requires { (c : Choice) × IsStore (B.bank first) (B.bank second) c }
+        requires { MayOpen (B.bank first) (B.bank second) }
         ensures opened { IfOk result (λ keeper. (c : Choice) → IsStore (B.bank first) (B.bank second) c → IsOpened c keeper) }
         ensures sizes { IfOk result (λ keeper. (B.bank first).size ≡ (B.bank second).size) }
         ensures fault { IfErr result (λ e. IsCause e.0 (B.bank first) (B.bank second)) }
+        ensures decayed { IsDecayed (B.bank first) (B.bank second) ⊎ IsDecayed (B.bank second) (B.bank first) → (B.bank first).size ≡ (B.bank second).size
+            → (IfOk result (λ keeper. ⊥)) × IfErr result (λ e. e.0 ≡ OpenFault.Decayed) }
         ensures failed { IfErr result (λ e. e.0 ≡ OpenFault.Flash → (B.has_failed e.1 ≡ true) ⊎ (B.has_failed e.2 ≡ true)) }
         ensures left { IfErr result (λ e. (c : Choice) → IsStore (B.bank first) (B.bank second) c → IsStore (B.bank e.1) (B.bank e.2) c) }
     {
@@ -150,6 +177,35 @@ impl<B: FlashBank + Drop> FlashKeeper<B> {
         FlashKeeper::settled(first, second, earlier)
     }
 
+    /// Erases two banks, for a device that leaves service: then no word of them, and so no key, is left (`blank`). It gives the banks back; with
+    /// an error where an erase failed, and then words may be left, so it is to be called again.
+    pub fn wipe(first: B, second: B) -> Result<(B, B), (B, B)>
+        ensures blank { IfOk result (λ banks. IsBlank (B.bank banks.0) × IsBlank (B.bank banks.1)) }
+        ensures failed { IfErr result (λ banks. (B.has_failed banks.0 ≡ true) ⊎ (B.has_failed banks.1 ≡ true)) }
+    {
+        let mut first = first;
+        let mut second = second;
+        let Ok(()) = wipe(&mut first) else {
+            return Err((first, second));
+        };
+        let Ok(()) = wipe(&mut second) else {
+            return Err((first, second));
+        };
+        Ok((first, second))
+    }
+
+    /// Whether each cell that counts still has its check: an opening looks at that, and no call after it. False tells that bits have changed by
+    /// themselves since, so what a get answers may not be what was put: then open the banks again, which answers [`OpenFault::Decayed`].
+    /// Nothing in the model of a bank changes by itself, so the contract says no more than that there is no false alarm.
+    pub fn is_intact(&self) -> bool
+        ensures { result ≡ true }
+    {
+        if has_decayed(&self.pair.live) {
+            return false;
+        }
+        true
+    }
+
     /// The banks, to be opened again: they stand for the records that it holds, or those that are left of a failed put.
     pub fn into_banks(self) -> (B, B)
         ensures { IsStore (B.bank result.0) (B.bank result.1) (record { old = self.store.records; new = self.left }) }
@@ -160,7 +216,8 @@ impl<B: FlashBank + Drop> FlashKeeper<B> {
     // Writes a record to flash.
     #[tactic(auto, using(crate::proofs::KeeperLemmas::kept_of_ready, crate::proofs::KeeperLemmas::kept_of_left, crate::proofs::KeeperLemmas::nothing_else))]
     fn write(&mut self, slot: u32, octets: &Record) -> Result<(), Failed>
-        requires { 0 < slot }
+        requires more { 0 < slot }
+        requires fits { slot < 2 ^ 16 }
         ensures ok { OnOk result (self.new.store.records ≡ insert self.old.store.records slot octets.now) }
         ensures err { OnErr result (self.new.store.records ≡ self.old.store.records) }
         ensures faults { self.new.store.faults ≡ self.old.store.faults }

@@ -13,16 +13,33 @@
 //! - So after any puts, losses of power and openings a slot has the record that was last put there, or that of a put which failed after it
 //!   ([`laws::a_slot_has_what_was_put`]).
 //! - All this holds however a torn word reads, and if it reads otherwise each time. No check sum is part of the argument.
+//! - Where bits have changed by themselves since, an opening answers [`OpenFault::Decayed`] or [`OpenFault::NoStore`], and no older record, as far as
+//!   the check of each cell tells (below). Of a store whose words are as they were written it never answers `Decayed`.
 //! - A torn erase may leave any word of a bank as it was, the head too. So a bank is retired before it is erased, and before the store goes on
 //!   with the copy of it: its head is then 0 in each bit. One premise is left (`from_zero`): where a torn erase met such a word, it does not read
-//!   as the head of a store. Of its 64 bits just 19 would have to rise before each of the others: one order in 8 * 10^15.
+//!   as the head of a store. Of its 64 bits just 20 would have to rise before each of the others: one order in 1.9 * 10^16.
 //! - No opening finds an older store. It may find none, for a time, where power failed in two programs in a row: that of the mark of a copy,
 //!   and that by which the opening after it retires this copy, whose mark read as not there. If both torn words then read as whole, it goes on
 //!   with the copy, whose head is weak until the log is copied again. Openings that read the head answer its records, others
 //!   [`OpenFault::NoStore`].
 //!
-//! What firmware has to promise stands at [`FlashBank`]. Not part of the model: bits that decay later or are disturbed by programs of other
-//! words, and parts that program no word of 8 octets by itself or refuse zeros over a word that was programmed.
+//! What firmware has to promise stands at [`FlashBank`]. Not part of the model: parts that program no word of 8 octets by itself or refuse zeros
+//! over a word that was programmed.
+//!
+//! # Decay
+//!
+//! A bit may lose its charge over the years, or gain one where words beside it are programmed. Each cell has a check of 32 bits over its slot, its
+//! length and its 64 octets, also those that were left erased: a residue modulo a prime. An opening looks at the cells of the live bank, one pass,
+//! before it programs anything. A cell that counts and has another check makes it answer [`OpenFault::Decayed`] (`decayed` of `open`), with the
+//! banks as they were. Each change within one octet, or of the slot and the length, gives another check
+//! ([`laws::a_changed_octet_is_seen`], [`laws::a_changed_slot_is_seen`]), each change of at most four bits too (counted for this prime, not proved),
+//! and of all others all but one in 4 * 10^9. Marks are read by most of their 64 bits, where nothing is torn, so a few bits of one that have changed
+//! make no difference. One bit of the head makes a live bank none: since the other one is retired, the answer is [`OpenFault::NoStore`].
+//!
+//! A node whose store has decayed must not go on with what is left: a counter may be among it. Format the banks, and let it join again.
+//!
+//! A put looks whether its cell is erased, and a copy at the check of each record: it fails where bits have changed since the opening. A get
+//! does not: what was opened long ago [`FlashKeeper::is_intact`] checks again.
 //!
 //! # After a failed put
 //!
@@ -31,30 +48,38 @@
 //!
 //! # Where power fails in a put
 //!
-//! A put programs slot and length, the octets, a fence that says that these are whole, and the mark that makes the cell count. Where the fence
-//! reads as not begun the mark was not begun either: an opening closes the cell in place, and erases nothing. Where the mark reads as programmed
-//! it makes that firm. Only where it reads the fence as begun and the mark as not does it copy the log without this cell, since the mark may read
-//! otherwise the next time: so power failed in the program of one of these two, or between them.
-//! An opening that loses power in that copy leaves it to the next one, which erases again: open a store at a supply that lasts for a copy.
+//! A put programs check, slot and length, the octets, a fence that says that these are whole, and the mark that makes the cell count. An opening
+//! settles the last cell in place, and erases nothing (`in_place` of `Pair::finish`):
+//!
+//! - the mark reads as begun: it programs the mark again, and the cell counts;
+//! - the fence reads as not begun, so the mark was not either: it programs the close of the cell, which never counts then;
+//! - the fence reads as begun and the close does not: the record is whole, so it programs the fence again and then the mark, and the cell counts.
+//!
+//! One case is left in which it copies the log without the cell: the fence and the close read as begun, and the mark does not. For that power has to
+//! fail in the program of the fence and again in an opening that read it as not begun, in the one program of the close. No words could decide that case
+//! in place for every row of losses of power. In 88,000 openings with a bouncing supply (11 places of the cut, 8 kinds of torn words) it came 3 times.
 //!
 //! # Figures
 //!
 //! | | |
 //! |---|---|
 //! | RAM | two [`FlashBank`] objects and 32 octets (24 on a 32-bit machine); no table of slots, no buffer that stays, no allocation |
-//! | flash, per bank | 24 octets, and 88 for each put until the bank is full |
-//! | a put | 3 programs of length, fence and mark, and one for each 8 octets of the record: 11 at most |
-//! | an opening | 2 programs at most, and one cell; 3 programs more in the first one after a bank was copied, which are of heads |
+//! | flash, per bank | 24 octets, and 96 for each put until the bank is full |
+//! | a put | 3 programs of slot, fence and mark, and one for each 8 octets of the record: 11 at most |
+//! | an opening | 2 programs, and one cell; one program more after a cut in a fence; 3 more in the first one after a bank was copied, which are of heads |
 //! | a word of a head | programmed at most 4 times between erases, and once more in an opening that loses power there, or after an erase that did |
 //! | a bank that is full | one erase, 5 programs, and a copy of each record; then the other bank is live, so the banks wear by turns |
-//! | erases | one in (cells of a bank - slots with a record) puts and openings, and one in an opening that reads the last fence as begun and its mark as not |
+//! | erases | one in (cells of a bank - slots with a record) puts and openings, and one after two cuts in a row as above |
+//! | reads | an opening: two words of each cell, and ten more of each that counts; a get: two of each cell from the end on |
 //!
-//! Two banks of 32 KiB have 372 cells each; a meter has at most 166 records, so there is one erase in 206 puts and openings at least. A get looks
-//! through the log from its end, two words a cell: nodes get records when they open, and hold them after that.
+//! Two banks of 32 KiB have 341 cells each; a meter has at most 166 records, so there is one erase in 175 puts and openings at least. A bank with
+//! hardly more cells than records is erased at each put: [`FlashKeeper::format`] refuses fewer than two cells a slot. Nodes get records when they
+//! open, and hold them after that.
 #![tactic(auto)]
 
 mod bank;
 mod cells;
+mod check;
 mod keeper;
 pub mod laws;
 mod model_flash;

@@ -39,7 +39,7 @@ pub struct ModelFlash {
     erases: u32,
     programs: u32,
     turn: Cell<u64>,
-    ghost fits: { (14 ≤ length words.items) × (length words.items < 2 ^ 32) },
+    ghost fits: { (15 ≤ length words.items) × (length words.items < 2 ^ 32) },
 }
 
 // A word that is erased.
@@ -83,7 +83,7 @@ fn cut_short(old: &ModelWord, word: u64, how: Cut) -> ModelWord
 impl ModelFlash {
     /// A bank of so many words, erased.
     pub fn new(alloc: Global, words: usize, seed: u64) -> Result<ModelFlash, AllocError>
-        requires least { 14 ≤ words }
+        requires least { 15 ≤ words }
         requires most { words < 2 ^ 32 }
     {
         let mut all = Vec::new(alloc);

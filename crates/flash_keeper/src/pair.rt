@@ -2,14 +2,17 @@
 ghost use Rattle.std.specs.Prelude.{◌≡◌, ◌<◌, ◌≤◌, ◌+◌, ◌⊎◌, ℕ, OnOk, OnErr, IfOk, Some, true, false, is_ok, ◌^◌};
 ghost use Rattle.std.specs.FinMap as map;
 ghost use Rattle.std.specs.FinMap.{insert};
-ghost use Rattle.flash_keeper.specs.Flash.{erased, Programs};
-ghost use Rattle.flash_keeper.specs.Log.{room, mark, fence, upto, Choice, IsOneOf, IsSettled, IsLeft, IsClosable, AreCertain, SameBelow};
+ghost use Rattle.flash_keeper.specs.Flash.{erased, IsBlank, Programs};
+ghost use Rattle.flash_keeper.specs.Log.{room, upto, upto_fence, Choice, IsOneOf, IsSettled, IsLeft, IsClosable, AreCertain, SameBelow, AreDecided};
 ghost use Rattle.flash_keeper.specs.Banks.{choice_of, AreLeft, AreReady, IsStore, IsLive, IsHeaded, IsDead, IsSeen, IsNumbered};
 
-use crate::bank::{FlashBank, HEAD};
+use crate::bank::{FlashBank, HEAD, is_programmed};
 use crate::cells::{close_cell, copy, first_blank, room_of, settle_before, write_cell};
 use plc_base::{Failed, Record};
 use std::mem::swap;
+
+/// The generation of the first bank of a store. No bit that changes by itself makes a note (0) of it, or of a later one.
+const FIRST: u64 = 0x6000_0000_0000_0000;
 
 /// The banks of a store, with what is known of the live one.
 #[derive(Drop)]
@@ -33,7 +36,7 @@ pub fn generation_of<B: FlashBank>(bank: &B) -> Option<u64>
         return None;
     }
     let mark = bank.read(2);
-    if mark != 0 {
+    if !is_programmed(mark) {
         return None;
     }
     Some(bank.read(1))
@@ -71,10 +74,10 @@ fn is_noted<B: FlashBank>(bank: &B) -> bool
     bank.read(1) == 0
 }
 
-// Retires a bank, and erases it.
-fn wipe<B: FlashBank>(bank: &mut B) -> Result<(), Failed>
+/// Retires a bank, and erases it.
+pub fn wipe<B: FlashBank>(bank: &mut B) -> Result<(), Failed>
     ensures firm { OnOk result ((B.bank bank.new).torn ≡ false) }
-    ensures blank { OnOk result ((i : ℕ) → (B.bank bank.new).words i ≡ Some erased) }
+    ensures blank { OnOk result (IsBlank (B.bank bank.new)) }
     ensures dead { IsDead (B.bank bank.old) → OnErr result (IsDead (B.bank bank.new)) }
     ensures size { (B.bank bank.new).size ≡ (B.bank bank.old).size }
     ensures failed { OnErr result (B.has_failed bank.new ≡ true) }
@@ -135,8 +138,9 @@ impl<B: FlashBank + Drop> Pair<B> {
         ensures later { OnOk result (self.old.generation + 1 < 2 ^ 64 → self.new.generation ≡ self.old.generation + 1) }
         ensures records { OnOk result (upto (B.bank self.new.live).words self.new.next ≡ upto (B.bank self.old.live).words self.old.next) }
         ensures same { OnErr result (upto (B.bank self.new.live).words self.new.next ≡ upto (B.bank self.old.live).words self.old.next) }
-        ensures left { OnErr result ((c : Choice) → IsLeft (B.bank self.old.live) self.old.next c
-            → AreLeft (B.bank self.new.live) (B.bank self.new.spare) self.new.next c) }
+        ensures next { OnErr result (self.new.next ≡ self.old.next) }
+        ensures left { OnErr result ((n : ℕ) (c : Choice) → IsLeft (B.bank self.old.live) n c
+            → IsOneOf c (upto (B.bank self.old.live).words self.old.next) → AreLeft (B.bank self.new.live) (B.bank self.new.spare) n c) }
         ensures failed { OnErr result ((B.has_failed self.new.live ≡ true) ⊎ (B.has_failed self.new.spare ≡ true)) }
     {
         let generation = self.generation.saturating_add(1);
@@ -172,13 +176,14 @@ impl<B: FlashBank + Drop> Pair<B> {
     fn append(&mut self, slot: u32, octets: &Record) -> Result<(), Failed>
         requires ready { AreReady (B.bank self.old.live) (B.bank self.old.spare) self.old.next }
         requires more { 0 < slot }
+        requires fits { slot < 2 ^ 16 }
         requires room { self.old.next < room (B.bank self.old.live).size }
         ensures ready { OnOk result (AreReady (B.bank self.new.live) (B.bank self.new.spare) self.new.next) }
         ensures records { OnOk result (upto (B.bank self.new.live).words self.new.next ≡ insert (upto (B.bank self.old.live).words self.old.next) slot
             octets.now) }
         ensures left { OnErr result (AreLeft (B.bank self.new.live) (B.bank self.new.spare) self.new.next (choice_of (B.bank self.new.live) self.new.next)) }
-        ensures found { OnErr result ((upto (B.bank self.new.live).words (self.new.next + 1) ≡ upto (B.bank self.old.live).words self.old.next)
-            ⊎ (upto (B.bank self.new.live).words (self.new.next + 1) ≡ insert (upto (B.bank self.old.live).words self.old.next) slot octets.now)) }
+        ensures found { OnErr result ((upto_fence (B.bank self.new.live).words self.new.next ≡ upto (B.bank self.old.live).words self.old.next)
+            ⊎ (upto_fence (B.bank self.new.live).words self.new.next ≡ insert (upto (B.bank self.old.live).words self.old.next) slot octets.now)) }
         ensures same { OnErr result (upto (B.bank self.new.live).words self.new.next ≡ upto (B.bank self.old.live).words self.old.next) }
     {
         write_cell(&mut self.live, self.next, slot, octets)?;
@@ -190,12 +195,13 @@ impl<B: FlashBank + Drop> Pair<B> {
     pub fn put(&mut self, slot: u32, octets: &Record) -> Result<(), Failed>
         requires ready { AreReady (B.bank self.old.live) (B.bank self.old.spare) self.old.next }
         requires more { 0 < slot }
+        requires fits { slot < 2 ^ 16 }
         ensures ready { OnOk result (AreReady (B.bank self.new.live) (B.bank self.new.spare) self.new.next) }
         ensures records { OnOk result (upto (B.bank self.new.live).words self.new.next ≡ insert (upto (B.bank self.old.live).words self.old.next) slot
             octets.now) }
         ensures left { OnErr result (AreLeft (B.bank self.new.live) (B.bank self.new.spare) self.new.next (choice_of (B.bank self.new.live) self.new.next)) }
-        ensures found { OnErr result ((upto (B.bank self.new.live).words (self.new.next + 1) ≡ upto (B.bank self.old.live).words self.old.next)
-            ⊎ (upto (B.bank self.new.live).words (self.new.next + 1) ≡ insert (upto (B.bank self.old.live).words self.old.next) slot octets.now)) }
+        ensures found { OnErr result ((upto_fence (B.bank self.new.live).words self.new.next ≡ upto (B.bank self.old.live).words self.old.next)
+            ⊎ (upto_fence (B.bank self.new.live).words self.new.next ≡ insert (upto (B.bank self.old.live).words self.old.next) slot octets.now)) }
         ensures same { OnErr result (upto (B.bank self.new.live).words self.new.next ≡ upto (B.bank self.old.live).words self.old.next) }
     {
         self.make_room()?;
@@ -234,7 +240,7 @@ impl<B: FlashBank + Drop> Pair<B> {
         ensures ready { OnOk result (AreReady (B.bank self.new.live) (B.bank self.new.spare) self.new.next) }
         ensures records { OnOk result ((c : Choice) (n : ℕ) → IsLeft (B.bank self.old.live) n c
             → IsOneOf c (upto (B.bank self.new.live).words self.new.next)) }
-        ensures in_place { (c : Choice) (n : ℕ) → IsLeft (B.bank self.old.live) n c → (B.bank self.old.live).words (fence n) ≡ Some erased
+        ensures in_place { (c : Choice) (n : ℕ) → IsLeft (B.bank self.old.live) n c → AreDecided (B.bank self.old.live).words n
             → B.bank self.new.spare ≡ B.bank self.old.spare }
         ensures left { OnErr result ((c : Choice) (n : ℕ) → IsLeft (B.bank self.old.live) n c → IsStore (B.bank self.new.live) (B.bank self.new.spare) c) }
         ensures failed { OnErr result ((B.has_failed self.new.live ≡ true) ⊎ (B.has_failed self.new.spare ≡ true)) }
@@ -294,10 +300,10 @@ impl<B: FlashBank + Drop> Pair<B> {
         ensures failed { OnErr result ((B.has_failed self.new.live ≡ true) ⊎ (B.has_failed self.new.spare ≡ true)) }
     {
         wipe(&mut self.spare)?;
-        begin(&mut self.live, 1)?;
+        begin(&mut self.live, FIRST)?;
         confirm(&mut self.live)?;
         self.next = 0;
-        self.generation = 1;
+        self.generation = FIRST;
         Ok(())
     }
 }

@@ -7,7 +7,7 @@ use std::alloc::{AllocError, Global};
 use std::test::Fail;
 
 /// Six cells a bank, so that the log is copied often.
-const WORDS: usize = 3 + 11 * 6;
+const WORDS: usize = 3 + 12 * 6;
 
 /// The ways in which power can fail.
 pub const HOW: [Cut; 3] = [Cut::Before, Cut::Within, Cut::After];
@@ -27,9 +27,9 @@ fn store(alloc: Global, nth: u32, how: Cut, of_second: bool) -> Result<Option<St
     } else {
         first.cut(nth, how);
     }
-    match FlashKeeper::format(first, second) {
+    match FlashKeeper::format(first, second, 3) {
         Ok(keeper) => Ok(Some(keeper)),
-        Err((_, first, second)) => Ok(FlashKeeper::format(first, second).ok()),
+        Err((_, first, second)) => Ok(FlashKeeper::format(first, second, 3).ok()),
     }
 }
 

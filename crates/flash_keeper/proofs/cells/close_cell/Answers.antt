@@ -1,6 +1,6 @@
-use Rattle.std.proofs.Common.{ℕ, Bool, is_ok, subst}
+use Rattle.std.proofs.Common.{ℕ, ◌+◌, Bool, is_ok, subst, ap}
 use Rattle.flash_keeper.specs.Flash.{Programs}
-use Rattle.flash_keeper.specs.Log.{place}
+use Rattle.flash_keeper.specs.Log.{close}
 use Rattle.flash_keeper.proofs.Outcomes.{on_ok_of}
 use Rattle.flash_keeper.proofs.LogLemmas.{settled_closed, left_closed}
 use Rattle.flash_keeper.proofs.cells.close_cell.Goals as goal
@@ -9,15 +9,15 @@ pub returns-clause-settled : goal.returns-clause-settled
 returns-clause-settled g c =
     let old = g.B.FlashBank.bank c.args.bank.now in
     let new = g.B.FlashBank.bank c.program.new.self in
-    let p : Programs (place c.args.cell) 0 (is_ok c.program.result) old new =
-    subst (λ (n : ℕ). Programs n 0 (is_ok c.program.result) old new) c.place_of.ensures c.program.ensures.programs in
+    let p : Programs (close c.args.cell) 0 (is_ok c.program.result) old new =
+    subst (λ (n : ℕ). Programs n 0 (is_ok c.program.result) old new) (ap (λ (n : ℕ). n + 9) c.place_of.ensures) c.program.ensures.programs in
     on_ok_of c.program.result (λ ok choice left unmarked.
-    settled_closed old new c.args.cell choice c.requires.within left unmarked (subst (λ (b : Bool). Programs (place c.args.cell) 0 b old new) ok p))
+    settled_closed old new c.args.cell choice c.requires.within left unmarked (subst (λ (b : Bool). Programs (close c.args.cell) 0 b old new) ok p))
 
 pub returns-clause-left : goal.returns-clause-left
 returns-clause-left g c =
     let old = g.B.FlashBank.bank c.args.bank.now in
     let new = g.B.FlashBank.bank c.program.new.self in
-    let p : Programs (place c.args.cell) 0 (is_ok c.program.result) old new =
-    subst (λ (n : ℕ). Programs n 0 (is_ok c.program.result) old new) c.place_of.ensures c.program.ensures.programs in
+    let p : Programs (close c.args.cell) 0 (is_ok c.program.result) old new =
+    subst (λ (n : ℕ). Programs n 0 (is_ok c.program.result) old new) (ap (λ (n : ℕ). n + 9) c.place_of.ensures) c.program.ensures.programs in
     λ choice left unmarked. left_closed old new c.args.cell choice (is_ok c.program.result) c.requires.within left unmarked p

@@ -9,17 +9,17 @@ pub returns-clause-settled : goal.returns-clause-settled
 returns-clause-settled g c =
     let old = g.B.FlashBank.bank c.args.bank.now in
     let new = g.B.FlashBank.bank c.program.new.self in
-    let at : c.place_of.result + 10 ≡ mark c.args.cell = ap (λ (n : ℕ). n + 10) c.place_of.ensures in
+    let at : c.place_of.result + 11 ≡ mark c.args.cell = ap (λ (n : ℕ). n + 11) c.place_of.ensures in
     let p : Programs (mark c.args.cell) 0 (is_ok c.program.result) old new = subst (λ (n : ℕ). Programs n 0 (is_ok c.program.result) old new) at
     c.program.ensures.programs in
-    on_ok_of c.program.result (λ ok choice left.
-    settled_again old new c.args.cell choice c.requires.within left c.requires.marked (subst (λ (b : Bool). Programs (mark c.args.cell) 0 b old new) ok p))
+    on_ok_of c.program.result (λ ok choice left fenced.
+    settled_again old new c.args.cell choice c.requires.within left fenced (subst (λ (b : Bool). Programs (mark c.args.cell) 0 b old new) ok p))
 
 pub returns-clause-left : goal.returns-clause-left
 returns-clause-left g c =
     let old = g.B.FlashBank.bank c.args.bank.now in
     let new = g.B.FlashBank.bank c.program.new.self in
-    let at : c.place_of.result + 10 ≡ mark c.args.cell = ap (λ (n : ℕ). n + 10) c.place_of.ensures in
+    let at : c.place_of.result + 11 ≡ mark c.args.cell = ap (λ (n : ℕ). n + 11) c.place_of.ensures in
     let p : Programs (mark c.args.cell) 0 (is_ok c.program.result) old new = subst (λ (n : ℕ). Programs n 0 (is_ok c.program.result) old new) at
     c.program.ensures.programs in
-    λ choice left. left_marked old new c.args.cell choice (is_ok c.program.result) c.requires.within left c.requires.marked p
+    λ choice left fenced. left_marked old new c.args.cell choice (is_ok c.program.result) c.requires.within left fenced p

@@ -10,8 +10,8 @@ returns-in_err-write_body-clause-left g c =
     let old = g.B.FlashBank.bank c.args.bank.now in
     let new = g.B.FlashBank.bank c.write_body.new.bank in
     on_err c.from_residual.result (λ choice one two.
-    left_at_body old new c.args.cell choice c.requires.settled c.requires.room c.write_body.ensures.same (c.write_body.ensures.firm
-    ∙ sym c.requires.settled.firm) c.write_body.ensures.size one)
+    left_at_body old new c.args.cell c.args.slot c.args.octets.now choice c.requires.settled c.requires.room c.write_body.ensures.same
+    (c.write_body.ensures.firm ∙ sym c.requires.settled.firm) c.write_body.ensures.size c.write_body.ensures.left one two)
 
 pub returns-clause-left : goal.returns-clause-left
 returns-clause-left g c =
@@ -19,16 +19,14 @@ returns-clause-left g c =
     let b = g.B.FlashBank.bank c.write_body.new.bank in
     let new = g.B.FlashBank.bank c.program.new.self in
     let body : BodyIs old b c.args.cell c.args.slot c.args.octets.now = record {
-      whole = c.in_ok-write_body.ensures.whole;
-      slot_is = c.in_ok-write_body.ensures.slot;
-      octets_is = c.in_ok-write_body.ensures.octets;
+      record_is = c.in_ok-write_body.ensures.record;
       fenced = c.in_ok-write_body.ensures.fence;
       same = c.in_ok-write_body.ensures.same;
       torn = c.in_ok-write_body.ensures.firm ∙ sym c.requires.settled.firm;
       size = c.in_ok-write_body.ensures.size;
     } in
     let p : Programs (mark c.args.cell) 0 (is_ok c.program.result) b new = subst (λ (n : ℕ). Programs n 0 (is_ok c.program.result) b new) (ap (λ (n : ℕ). n +
-    10) c.place_of-at.ensures) c.program.ensures.programs in
+    11) c.place_of.ensures) c.program.ensures.programs in
     on_err c.program.result (λ choice one two. left_at_mark old b new c.args.cell c.args.slot c.args.octets.now choice _
     c.requires.settled c.requires.room body p one two)
 
@@ -38,16 +36,14 @@ returns-clause-records g c =
     let b = g.B.FlashBank.bank c.write_body.new.bank in
     let new = g.B.FlashBank.bank c.program.new.self in
     let body : BodyIs old b c.args.cell c.args.slot c.args.octets.now = record {
-      whole = c.in_ok-write_body.ensures.whole;
-      slot_is = c.in_ok-write_body.ensures.slot;
-      octets_is = c.in_ok-write_body.ensures.octets;
+      record_is = c.in_ok-write_body.ensures.record;
       fenced = c.in_ok-write_body.ensures.fence;
       same = c.in_ok-write_body.ensures.same;
       torn = c.in_ok-write_body.ensures.firm ∙ sym c.requires.settled.firm;
       size = c.in_ok-write_body.ensures.size;
     } in
     let p : Programs (mark c.args.cell) 0 (is_ok c.program.result) b new = subst (λ (n : ℕ). Programs n 0 (is_ok c.program.result) b new) (ap (λ (n : ℕ). n +
-    10) c.place_of-at.ensures) c.program.ensures.programs in
+    11) c.place_of.ensures) c.program.ensures.programs in
     on_ok_of c.program.result (λ ok. records_marked old b new c.args.cell c.args.slot c.args.octets.now body
     (subst (λ (k : Bool). Programs (mark c.args.cell) 0 k b new) ok p))
 
@@ -57,15 +53,13 @@ returns-clause-settled g c =
     let b = g.B.FlashBank.bank c.write_body.new.bank in
     let new = g.B.FlashBank.bank c.program.new.self in
     let body : BodyIs old b c.args.cell c.args.slot c.args.octets.now = record {
-      whole = c.in_ok-write_body.ensures.whole;
-      slot_is = c.in_ok-write_body.ensures.slot;
-      octets_is = c.in_ok-write_body.ensures.octets;
+      record_is = c.in_ok-write_body.ensures.record;
       fenced = c.in_ok-write_body.ensures.fence;
       same = c.in_ok-write_body.ensures.same;
       torn = c.in_ok-write_body.ensures.firm ∙ sym c.requires.settled.firm;
       size = c.in_ok-write_body.ensures.size;
     } in
     let p : Programs (mark c.args.cell) 0 (is_ok c.program.result) b new = subst (λ (n : ℕ). Programs n 0 (is_ok c.program.result) b new) (ap (λ (n : ℕ). n +
-    10) c.place_of-at.ensures) c.program.ensures.programs in
+    11) c.place_of.ensures) c.program.ensures.programs in
     on_ok_of c.program.result (λ ok. settled_marked old b new c.args.cell c.args.slot c.args.octets.now c.requires.settled c.requires.room body
     (subst (λ (k : Bool). Programs (mark c.args.cell) 0 k b new) ok p))

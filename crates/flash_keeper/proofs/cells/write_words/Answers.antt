@@ -22,11 +22,11 @@ pub loop-i-preserved : goal.loop-i-preserved
 loop-i-preserved g c =
     let init = g.B.FlashBank.bank c.args.bank.now in
     let old = g.B.FlashBank.bank c.loop-i.bank in
-    let new = g.B.FlashBank.bank c.program.new.self in
+    let new = g.B.FlashBank.bank c.program_word.new.bank in
     let i = c.loop-i.i in
     let at : c.place_of-at.result + 1 + i ≡ place c.args.cell + 1 + i = ap (λ (n : ℕ). n + 1 + i) c.place_of-at.ensures in
     let p : Programs (place c.args.cell + 1 + i) c.word_at.result true old new = subst (λ (n : ℕ). Programs n c.word_at.result true old new) at
-    c.in_ok-program.ensures.programs in
+    c.in_ok-program_word.ensures.programs in
     let more = one_more_word init old new (place c.args.cell + 1) i c.word_at.result c.args.octets.now p c.loop-i.invariant.same c.loop-i.invariant.octets
     c.loop-i.invariant.body c.word_at.ensures in
     record {

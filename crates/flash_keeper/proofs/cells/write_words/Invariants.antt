@@ -12,8 +12,8 @@ invariant-loop-i g l =
       same : SameOutside (place l.cell + 1) (place l.cell + 1 + l.i) old new;
       octets : octets_from new.words (place l.cell + 1) l.i ≡ take (8 * l.i) l.octets;
       body : (j : ℕ) → j < l.i → IsFirm (new.words (place l.cell + 1 + j));
-      below : l.i ≤ l.words;
+      below : l.i ≤ 8;
     }
 
 abbrev pub decreases-loop-i : goal.decreases-loop-i
-decreases-loop-i g l = l.words - l.i
+decreases-loop-i g l = 8 - l.i

@@ -1,8 +1,8 @@
-use Rattle.std.proofs.Common.{◌∙◌, ◌-◌, inl, sym, ap, arith}
+use Rattle.std.proofs.Common.{◌∙◌, inl, sym, ap, arith}
 use Rattle.flash_keeper.specs.Flash.{Bank}
 use Rattle.flash_keeper.proofs.Outcomes.{on_err, one_ok, one_err}
 use Rattle.flash_keeper.proofs.LogLemmas.{one_of}
-use Rattle.flash_keeper.proofs.BankLemmas.{n_within, store_left, dead_moved, numbered-same}
+use Rattle.flash_keeper.proofs.BankLemmas.{store_left, dead_moved, numbered-same}
 use Rattle.flash_keeper.proofs.pair.Pair.finish.Goals as goal
 
 pub returns-in_err-sure-clause-left : goal.returns-in_err-sure-clause-left
@@ -17,7 +17,7 @@ overflow_sub-self g c =
     let choice = c.requires.log.0 in
     let n = c.requires.log.1 in
     let left = c.requires.log.2 in
-    let more = (c.in_ok-sure.ensures.torn c.if-not-sure.true n choice left (c.first_blank-at.ensures.found n choice left)).0 in
+    let more = (c.in_ok-sure.ensures.torn c.if-not-sure.true n choice left (c.first_blank-at.ensures.found n choice left)).more in
     omega (arith, more)
 
 pub rewrite-requires-clause-within : goal.rewrite-requires-clause-within
@@ -26,25 +26,24 @@ rewrite-requires-clause-within g c =
     let n = c.requires.log.1 in
     let left = c.requires.log.2 in
     let torn = c.in_ok-sure.ensures.torn c.if-not-sure.true n choice left (c.first_blank-at.ensures.found n choice left) in
-    n_within (g.B.FlashBank.bank c.settle_before.new.bank) (c.first_blank-at.result - 1) choice torn.1
+    torn.within
 
 pub rewrite-requires-clause-certain : goal.rewrite-requires-clause-certain
 rewrite-requires-clause-certain g c =
     let choice = c.requires.log.0 in
     let n = c.requires.log.1 in
     let left = c.requires.log.2 in
-    (c.in_ok-sure.ensures.torn c.if-not-sure.true n choice left (c.first_blank-at.ensures.found n choice left)).1.certain
+    (c.in_ok-sure.ensures.torn c.if-not-sure.true n choice left (c.first_blank-at.ensures.found n choice left)).certain
 
 pub returns-then-not-sure-clause-records : goal.returns-then-not-sure-clause-records
 returns-then-not-sure-clause-records g c = one_ok c.rewrite.result (λ same choice n left.
-    one_of same (c.in_ok-sure.ensures.torn c.if-not-sure.true n choice left (c.first_blank-at.ensures.found n choice left)).1.stands)
+    one_of same (c.in_ok-sure.ensures.torn c.if-not-sure.true n choice left (c.first_blank-at.ensures.found n choice left)).stands)
     c.rewrite.ensures.records
 
 pub returns-then-not-sure-clause-left : goal.returns-then-not-sure-clause-left
-returns-then-not-sure-clause-left g c = one_err c.rewrite.result (λ f choice n left. inl (
-  c.rewrite.new.self.next,
-  f choice (c.in_ok-sure.ensures.torn c.if-not-sure.true n choice left (c.first_blank-at.ensures.found n choice left)).1,
-)) c.rewrite.ensures.left
+returns-then-not-sure-clause-left g c = one_err c.rewrite.result (λ f choice n left.
+    let short = c.in_ok-sure.ensures.torn c.if-not-sure.true n choice left (c.first_blank-at.ensures.found n choice left) in
+    inl (n, f n choice short.left short.stands)) c.rewrite.ensures.left
 
 pub returns-clause-records : goal.returns-clause-records
 returns-clause-records g c = one_ok c.finish_at.result (λ f choice n left.
@@ -76,5 +75,5 @@ returns-clause-left g c = one_err c.finish_at.result (λ f choice n left.
     c.finish_at.ensures.left
 
 pub returns-then-not-sure-clause-in_place : goal.returns-then-not-sure-clause-in_place
-returns-then-not-sure-clause-in_place g c = λ choice n left blank. absurd (c.in_ok-sure.ensures.unfenced c.if-not-sure.true n choice left
-    (c.first_blank-at.ensures.found n choice left) blank)
+returns-then-not-sure-clause-in_place g c = λ choice n left decided. absurd (c.in_ok-sure.ensures.undecided c.if-not-sure.true n choice left
+    (c.first_blank-at.ensures.found n choice left) decided)
