@@ -67,7 +67,7 @@ pub use Rattle.line_laws.specs.InCustody.{SentUnder}
 
 -- # Sends by their numbers
 
-at_number : (sent : List Sending) (note : ℕ) (s : Sending) → send_at sent note ≡ Some s → (0 < note) × (slice_get sent (note - 1) ≡ Some s)
+pub at_number : (sent : List Sending) (note : ℕ) (s : Sending) → send_at sent note ≡ Some s → (0 < note) × (slice_get sent (note - 1) ≡ Some s)
 at_number sent note s = by_test (note == 0) refl
   where
     by_test : (b : Bool) → (note == 0) ≡ b → (if b then None else slice_get sent (note - 1)) ≡ Some s → (0 < note) × (slice_get sent (note - 1) ≡ Some s)
@@ -115,7 +115,7 @@ pairs_last xs u pairs k d lt =
     λ same. h (ap (λ (v : Handed). v.note) (left_get xs (u ∷ []) k d lt) ∙ same ∙ sym (ap (λ (v : Handed). v.note) (last_get xs u d)))
 
 module _ (home : ℕ → ℕ) (apart : (i j : ℕ) → home i ≡ home j → i ≡ j) (sent : List Sending) (rises : AllPairs TagRises sent) where
-  one_send : OneSend (SentUnder home sent)
+  pub one_send : OneSend (SentUnder home sent)
   one_send note s t a b = sym a.of ∙ ap (sent_as home) (same_Some _ _ (sym a.is ∙ b.is)) ∙ b.of
 
   lower_tag : (i j : ℕ) (x y : Sending) → slice_get sent i ≡ Some x → slice_get sent j ≡ Some y → i < j → x.from ≡ y.from → 375 < length x.datagram
@@ -127,7 +127,7 @@ module _ (home : ℕ → ℕ) (apart : (i j : ℕ) → home i ≡ home j → i �
       let k : TagRises x y = subst (λ (p : Sending). TagRises p y) a (subst (TagRises (get_or sent i x)) b h) in
       k from long_x long_y
 
-  tags_differ : TagsDiffer (SentUnder home sent)
+  pub tags_differ : TagsDiffer (SentUnder home sent)
   tags_differ a b s t ha hb long_s long_t origin tag =
       let x = ha.sending in
       let y = hb.sending in

@@ -8,6 +8,7 @@ use Rattle.std.specs.Option.{option_map}
 use Rattle.std.proofs.lemmas.Bool.{leb-false}
 use Rattle.std.proofs.lemmas.Option.{same_Some, none-some}
 use Rattle.std.proofs.lemmas.List.Elements.{All-nil, All-cons, All-head, All-tail, All-push, All-append, All-filter, All-map}
+use Rattle.std.proofs.lemmas.List.FromFn.{length-range_with_len, get_or-range_with_len}
 use Rattle.plc_base.specs.declared.key.Key.{Key}
 use Rattle.plc_base.specs.Grant.{Granted, keyed}
 use Rattle.group_keys.specs.KeyRing as ring
@@ -19,6 +20,7 @@ use Rattle.node_rules.specs.Memory.{StationMemory, Body, Load, Datagram, Command
 use Rattle.node_rules.specs.Drafts.{Draft, own_mesh, units_of, all_go, waits_for, with_rank, with_own_number, with_next_tag, with_ring, with_routing_by, goes}
 use Rattle.node_rules.specs.Drafts.{body_goes, waits, leave}
 use Rattle.line_laws.specs.Sends.{SentAs, FitsAt, UnitIsOf, LoadIsOf, OutIsOf, BodyIsOf}
+use Rattle.line_laws.proofs.RangeUnits.{piece_some}
 use Rattle.line_laws.proofs.Made.{Given, IsCome, IsLess, Whole, Part, Carried, RingWord, Carry, Install, RingChange, Drops, Installs, Draws, Activates, IsSaid}
 use Rattle.line_laws.proofs.Made.{Seeks, Answers, Relays, Passes, SaysTheSame, Forwards, Made, Starts, Ranks, Numbers, Tags, Rings, Idles, Loses, Goes, Sends}
 use Rattle.line_laws.proofs.Made.{Waits}
@@ -51,8 +53,8 @@ module _ (S : ℕ → SentAs → Type 0) where
   units_are_of own to note (Command octets) h = All-cons (UnitIsOf S note) _ [] tt (All-nil (UnitIsOf S note))
   units_are_of own to note (Datagram octets tag) h = by_size (nat_le (length octets) 375) refl
     where
-      part : 375 < length octets → (k : ℕ) → UnitIsOf S note (units.Part (own_mesh own to) (piece_of octets tag k))
-      part above k = record {
+      part : 375 < length octets → (k : ℕ) → k < div_ceil (length octets) 368 → UnitIsOf S note (units.Part (own_mesh own to) (piece_of octets tag k))
+      part above k lt = record {
         sent = h.sent;
         is = h.is;
         from = h.from;
@@ -61,18 +63,26 @@ module _ (S : ℕ → SentAs → Type 0) where
           long = subst (λ (xs : List ℕ). 375 < length xs) (sym h.content.0) above;
           size = ap length h.content.0;
           tag = h.content.1;
+          some = piece_some octets tag k lt;
           fits = subst (FitsAt (piece_of octets tag k).octets (46 * k * 8)) (sym h.content.0) (piece_fits octets tag k);
         };
       }
 
-      parts : 375 < length octets → (ks : List ℕ) → All (UnitIsOf S note) (map (λ piece. units.Part (own_mesh own to) piece) (map (piece_of octets tag) ks))
-      parts above ks = All-map (UnitIsOf S note) (λ piece. units.Part (own_mesh own to) piece) (map (piece_of octets tag) ks)
-          (All-map (λ (p : Placed). UnitIsOf S note (units.Part (own_mesh own to) p)) (piece_of octets tag) ks (λ i k lt. part above _))
+      ks : List ℕ
+      ks = range_with_len 0 (div_ceil (length octets) 368)
+
+      parts : 375 < length octets → All (UnitIsOf S note) (map (λ piece. units.Part (own_mesh own to) piece) (map (piece_of octets tag) ks))
+      parts above = All-map (UnitIsOf S note) (λ piece. units.Part (own_mesh own to) piece) (map (piece_of octets tag) ks)
+          (All-map (λ (p : Placed). UnitIsOf S note (units.Part (own_mesh own to) p)) (piece_of octets tag) ks
+          (λ k e lt.
+          let within : k < div_ceil (length octets) 368 = omega (arith, length-range_with_len 0 (div_ceil (length octets) 368)) in
+          subst (λ (j : ℕ). UnitIsOf S note (units.Part (own_mesh own to) (piece_of octets tag j)))
+          (sym (get_or-range_with_len 0 (div_ceil (length octets) 368) k e within ∙ omega arith)) (part above k within)))
 
       by_size : (b : Bool) → nat_le (length octets) 375 ≡ b → All (UnitIsOf S note) (units_of own to (Datagram octets tag))
       by_size true t = rw t (All-cons (UnitIsOf S note) _ [] (record { sent = h.sent; is = h.is; from = h.from; target = h.target; content = h.content.0 })
           (All-nil (UnitIsOf S note)))
-      by_size false t = rw t (parts (leb-false _ _ t) (range_with_len 0 (div_ceil (length octets) 368)))
+      by_size false t = rw t (parts (leb-false _ _ t))
 
   body_goes_of : (own hop to note : ℕ) (load : Load) → (LoadIsOf S own to note load) → All (OutIsOf S) (all_go hop note (units_of own to load))
   body_goes_of own hop to note load h = All-map (OutIsOf S) (λ unit. record { to = hop; unit = unit; note = note }) (units_of own to load)

@@ -14,7 +14,7 @@ use Rattle.fragment_buffers.specs.Taking.{same_name, grown, settled, joined, beh
 use Rattle.node_rules.specs.declared.heard.Heard.{Heard}
 use Rattle.node_rules.specs.declared.heard.Heard.TheVariants as heard
 use Rattle.node_rules.specs.Memory.{StationMemory, address_of}
-use Rattle.line_laws.specs.Sends.{SentAs, IsOf, UnitIsOf, PlacedFits, Gathers, HeldIsOf, UpIsOf}
+use Rattle.line_laws.specs.Sends.{SentAs, IsOf, UnitIsOf, HasOctets, PlacedFits, Gathers, HeldIsOf, UpIsOf}
 use Rattle.line_laws.proofs.Made.{Given, IsCome}
 use Rattle.line_laws.proofs.HearingForms.{IsNoUp, Handed, HandsUp, HandsOn, Gathers as Gathered, Completes}
 use Rattle.line_laws.proofs.CustodyPieces.{NameHasNote}
@@ -115,6 +115,7 @@ module _ (S : ℕ → SentAs → Type 0) (one : OneSend S) (own : ℕ) where
             let send : y.sent ≡ x.sent = one r.note y.sent x.sent (subst (λ n. S n y.sent) (sym same) y.is) x.is in
             let fits : PlacedFits x.sent.octets p = subst (λ (s : SentAs). PlacedFits s.octets p) send
             (All-head (PlacedFits y.sent.octets) p [] (subst (All (PlacedFits y.sent.octets)) first y.content.pieces)) in
+            let filled : HasOctets p = All-head HasOctets p [] (subst (All HasOctets) first y.content.filled) in
             record {
               sent = x.sent;
               is = x.is;
@@ -125,6 +126,7 @@ module _ (S : ℕ → SentAs → Type 0) (one : OneSend S) (own : ℕ) where
                 size = x.content.size;
                 tag = x.content.tag;
                 pieces = All-push (PlacedFits x.sent.octets) r.pieces p x.content.pieces fits;
+                filled = All-push HasOctets r.pieces p x.content.filled filled;
               };
             }
 
@@ -176,6 +178,7 @@ module _ (S : ℕ → SentAs → Type 0) (one : OneSend S) (own : ℕ) where
             size = x.content.size;
             tag = x.content.tag;
             pieces = All-cons (PlacedFits x.sent.octets) (placed piece) [] x.content.fits (All-nil (PlacedFits x.sent.octets));
+            filled = All-cons HasOctets (placed piece) [] x.content.some (All-nil HasOctets);
           };
         };
   }

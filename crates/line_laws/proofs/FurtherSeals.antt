@@ -31,7 +31,7 @@ use Rattle.line_laws.proofs.FurtherForms.{IsFurther, Rests, Goes, counted_on}
 use Rattle.line_laws.proofs.IssueCalls.{Quietly}
 use Rattle.line_laws.proofs.IssueWords.{Each, each_append}
 use Rattle.line_laws.proofs.Keeping.{Leads, leads_append, leads_beside}
-use Rattle.line_laws.proofs.LaterSeals.{no_route, sealed_true, sealed_weighs, sealed_backed}
+use Rattle.line_laws.proofs.LaterSeals.{goes_beside, no_route, sealed_true, sealed_weighs, sealed_backed}
 use Rattle.line_laws.proofs.LaterStores.{log_away, log_grown, log_ranks, log_rings}
 use Rattle.line_laws.proofs.OctetDrafts.{OutSpeaks, SentOctets, sealed_speak}
 use Rattle.line_laws.proofs.RangeFrames.{IsSent, sealed_fit}
@@ -71,7 +71,8 @@ all_of_none P r first = rw (none_sealed r first) (All-nil P)
 
 all_out : (us : List UnsealedUnit) → IsOne us → All IsOut us
 all_out us Silent = All-nil IsOut
-all_out us (One to unit target may) = All-cons IsOut _ [] (record { to = target; unit = may.fit; route = no_route unit may.beside }) (All-nil IsOut)
+all_out us (One to unit target may) = All-cons IsOut _ []
+    (record { to = target; unit = may.fit; route = no_route unit may.beside; one = goes_beside to unit may.beside }) (All-nil IsOut)
 
 all_speak : (us : List UnsealedUnit) → IsOne us → All OutSpeaks us
 all_speak us Silent = All-nil OutSpeaks

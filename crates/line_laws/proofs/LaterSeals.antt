@@ -27,7 +27,7 @@ use Rattle.node_rules.specs.Plans.{Plan, carry_out, resting}
 use Rattle.node_rules.proofs.Writing.{clean}
 use Rattle.line_laws.specs.Custody.{content_is, sent_is, weigh}
 use Rattle.line_laws.specs.Later.{IsBeside, MayBeSealed, seals}
-use Rattle.line_laws.specs.SealedUnits.{IsRoute}
+use Rattle.line_laws.specs.SealedUnits.{GoesToOne, IsRoute}
 use Rattle.line_laws.specs.Ranges.{IsOut, IsStationRanged}
 use Rattle.line_laws.specs.InCustody.{StationIsTrue}
 use Rattle.line_laws.specs.Ranked.{UnitBacked, IsOther}
@@ -70,6 +70,12 @@ no_route (units.Local code body) h = λ e. absurd (omega arith)
 no_route (units.Whole mesh octets) h = absurd h
 no_route (units.Part mesh piece) h = absurd h
 no_route (units.Carried mesh body) h = absurd h
+
+pub goes_beside : (to : ℕ) (u : MeshUnit) → IsBeside u → GoesToOne to u
+goes_beside to (units.Local code body) h = tt
+goes_beside to (units.Whole mesh octets) h = absurd h
+goes_beside to (units.Part mesh piece) h = absurd h
+goes_beside to (units.Carried mesh body) h = absurd h
 
 no_send : (S : ℕ → SentAs → Type 0) (u : MeshUnit) → IsBeside u → UnitIsOf S 0 u
 no_send S (units.Local code body) h = tt
@@ -189,7 +195,8 @@ module _ {E : Type 0} (ends : Ends E) (to : ℕ) (unit : MeshUnit) where
   module _ (target : IsTarget to) (may : MayBeSealed unit) where
     -- ranges
     outs : All IsOut (one ∷ [])
-    outs = All-cons IsOut one [] (record { to = target; unit = may.fit; route = no_route unit may.beside }) (All-nil IsOut)
+    outs = All-cons IsOut one []
+        (record { to = target; unit = may.fit; route = no_route unit may.beside; one = goes_beside to unit may.beside }) (All-nil IsOut)
 
     pub plan_ranged : (m : Memory) → IsStationRanged m.station → RangeOk (plan m)
     unfolding resting

@@ -29,7 +29,7 @@ use Rattle.line_laws.specs.SealedUnits.{IsFit}
 use Rattle.line_laws.specs.Ranges.{HasRoomInFrames, IsBody, HasHop, IsStationRanged, IsOut, IsRanged}
 use Rattle.line_laws.specs.Stores.{IsReadable}
 use Rattle.line_laws.proofs.StoreFold.{WordFits, ring_fits}
-use Rattle.line_laws.proofs.RangeUnits.{less_fit, less_route, all_out}
+use Rattle.line_laws.proofs.RangeUnits.{less_fit, less_one, less_route, all_out}
 use Rattle.line_laws.proofs.Made.{Given, IsCome, MessageCame, Offered, ByRequest, ByReply, ByItself, RingWord, Carry, mesh_of, IsLost, ByError, OnWay, IsSaid}
 use Rattle.line_laws.proofs.Made.{Seeks}
 use Rattle.line_laws.proofs.Made.{Answers, Relays, Passes, SaysTheSame, Forwards, Made, Starts, Ranks, Numbers, Tags, Rings, Idles, Loses, Goes, Sends, Waits}
@@ -152,7 +152,7 @@ module _ (W : RingWord → Type 0) (g : Given) (s : Draft StationMemory) (known 
   -- a route message to one node or to all
   message_out : (to : ℕ) (m : Message) (note : ℕ) → IsTarget to → messages.IsMessage m
       → IsOut (record { to = to; unit = units.Local 1 (messages.spelling m); note = note })
-  message_out to m note target fits = record { to = target; unit = message_fit m; route = λ e. (m, fits, refl) }
+  message_out to m note target fits = record { to = target; unit = message_fit m; route = λ e. (m, fits, refl); one = tt }
 
   one : (a : ℕ) → a < 0xFFFE → IsTarget a
   one a h = (omega arith, omega arith)
@@ -191,7 +191,13 @@ module _ (W : RingWord → Type 0) (g : Given) (s : Draft StationMemory) (known 
   said_out d to unit note h (SaysTheSame hop lost t dest why there) =
       message_out hop (Rerr lost t) 0 (one hop (hop_ranged d.memory dest hop h there)) (lost_fits lost t why)
   said_out d to unit note h (Forwards by hop dest u less came is there) =
-      record { to = one hop (hop_ranged d.memory dest hop h there); unit = less_fit u less is (known.comes by false u came).1; route = less_route u less is }
+      let short = hop_ranged d.memory dest hop h there in
+      record {
+        to = one hop short;
+        unit = less_fit u less is (known.comes by false u came).1;
+        route = less_route u less is;
+        one = less_one hop u less short is;
+      }
 
   -- # The fold
 

@@ -40,7 +40,15 @@ sealed_units_fit : (g : Granted) (key : Key) (first : ℕ) (units : List Unseale
 sealed_units_fit g key first [] fits left all = All-nil IsSent
 sealed_units_fit g key first (o ∷ rest) fits left all =
     let out = All-head IsOut o rest all in
-    All-cons IsSent _ _ (record { to = out.to; from = fits.address; counter = omega arith; index = fits.grant.index; unit = out.unit; route = out.route })
+    All-cons IsSent _ _ (record {
+      to = out.to;
+      from = fits.address;
+      counter = omega arith;
+      index = fits.grant.index;
+      unit = out.unit;
+      route = out.route;
+      one = out.one;
+    })
     (sealed_units_fit g key (first + 1) rest fits (omega arith) (All-tail IsOut o rest all))
 
 pub sealed_fit : (r : ring.Ring) (first : ℕ) (units : List UnsealedUnit) → IfSome r IsReadable → length units ≤ 4294967295 - first → All IsOut units

@@ -16,7 +16,7 @@ use Rattle.mesh_header.specs.Grammar.{IsMesh, hops_then, mesh_then, piece_spelli
 use Rattle.fragment_buffers.specs.Fragmentation.{piece_of, pieces_cut}
 use Rattle.node_rules.specs.Memory.{Load, Datagram, Command}
 use Rattle.node_rules.specs.Drafts.{own_mesh, units_of, all_go}
-use Rattle.line_laws.specs.SealedUnits.{IsFit, IsRoute}
+use Rattle.line_laws.specs.SealedUnits.{IsFit, IsRoute, GoesToOne}
 use Rattle.line_laws.specs.Ranges.{HasRoomInFrames, IsOut}
 use Rattle.line_laws.proofs.Made.{IsLess, Whole, Part, Carried}
 
@@ -60,6 +60,12 @@ less_fit u less (Carried mesh body) h = record {
   size = let x = less_hops mesh.hops (big_bytes 2 mesh.origin ++ (big_bytes 2 mesh.to ++ (0x40 ∷ 2 ∷ body))) in let y = h.size in omega arith;
 }
 
+-- a unit with one hop less that goes to a node
+pub less_one : (to : ℕ) (u less : MeshUnit) → to < 0xFFFE → IsLess u less → GoesToOne to less
+less_one to u less short (Whole mesh octets) = λ e. absurd (omega arith)
+less_one to u less short (Part mesh piece) = λ e. absurd (omega arith)
+less_one to u less short (Carried mesh body) = λ e. absurd (omega arith)
+
 pub less_route : (u less : MeshUnit) → IsLess u less → IsRoute less
 less_route u less (Whole mesh octets) = tt
 less_route u less (Part mesh piece) = tt
@@ -79,6 +85,16 @@ length-piece p = by_offset (p.offset == 0)
 
 piece_length : (d : List ℕ) (tag k : ℕ) → length (piece_of d tag k).octets ≡ min 368 (length d - 368 * k)
 piece_length d tag k = length-take 368 (drop (368 * k) d) ∙ ap (min 368) (length-drop (368 * k) d)
+
+begins : (n k : ℕ) → k < div_ceil n 368 → 368 * k < n
+begins n k lt = omega arith
+
+-- no piece is empty
+pub piece_some : (d : List ℕ) (tag k : ℕ) → k < div_ceil (length d) 368 → 0 < length (piece_of d tag k).octets
+piece_some d tag k lt =
+    let at = begins (length d) k lt in
+    let len = piece_length d tag k in
+    omega arith
 
 -- so many pieces, and each begins within
 count_bound : (n k : ℕ) → 375 < n → n ≤ 1280 → k < div_ceil n 368 → (k ≤ 3) × (368 * k < n)
@@ -151,6 +167,21 @@ module _ (own to : ℕ) (here : own < 0xFFFE) (there : to < 0xFFFE) where
       by_size true pieces = All-cons IsRoute _ [] tt (All-nil IsRoute)
       by_size false pieces = All-map IsRoute (λ piece. units.Part (own_mesh own to) piece) pieces (λ k p lt. tt)
 
+  to_one : (hop : ℕ) (load : Load) → hop < 0xFFFE → All (GoesToOne hop) (units_of own to load)
+  to_one hop (Command octets) short = All-cons (GoesToOne hop) _ [] (λ e. absurd (omega arith)) (All-nil (GoesToOne hop))
+  to_one hop (Datagram octets tag) short = by_size (nat_le (length octets) 375) (pieces_cut octets tag)
+    where
+      by_size : (b : Bool) (pieces : List Placed)
+          → All (GoesToOne hop) (if b then units.Whole (own_mesh own to) octets ∷ [] else map (λ piece. units.Part (own_mesh own to) piece) pieces)
+      by_size true pieces = All-cons (GoesToOne hop) _ [] (λ e. absurd (omega arith)) (All-nil (GoesToOne hop))
+      by_size false pieces =
+          All-map (GoesToOne hop) (λ piece. units.Part (own_mesh own to) piece) pieces (λ k p lt. λ e. absurd (omega arith))
+
   pub all_out : (hop note : ℕ) (load : Load) → hop < 0xFFFE → HasRoomInFrames load → All IsOut (all_go hop note (units_of own to load))
   all_out hop note load short h = All-map IsOut (λ unit. record { to = hop; unit = unit; note = note }) (units_of own to load)
-      (λ k u lt. record { to = (omega arith, omega arith); unit = units_fit load h k u lt; route = routeless load k u lt })
+      (λ k u lt. record {
+        to = (omega arith, omega arith);
+        unit = units_fit load h k u lt;
+        route = routeless load k u lt;
+        one = to_one hop load short k u lt;
+      })

@@ -9,7 +9,7 @@ use Rattle.node_rules.specs.Memory.{StationMemory, Memory, Node, Body, Load, Dat
 use Rattle.node_rules.specs.Drafts.{Draft, UnsealedUnit}
 use Rattle.line_laws.specs.Stores.{IsReadable}
 use Rattle.line_rules.specs.Worlds.{World}
-use Rattle.line_laws.specs.SealedUnits.{IsFit, IsRoute, AreFlights}
+use Rattle.line_laws.specs.SealedUnits.{IsFit, IsRoute, GoesToOne, AreFlights}
 
 -- a datagram that was taken, with a tag; a command, with its code in front
 abbrev pub HasRoomInFrames : Load → Type 0
@@ -38,6 +38,7 @@ pub record IsOut (o : UnsealedUnit) : Type 0 where
   pub to : IsTarget o.to
   pub unit : IsFit o.unit
   pub route : IsRoute o.unit
+  pub one : GoesToOne o.to o.unit
 
 -- What is being done is in its ranges.
 pub record IsRanged (d : Draft StationMemory) : Type 0 where

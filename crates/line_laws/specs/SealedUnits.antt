@@ -1,5 +1,5 @@
 -- What flights are: each sealed one is the spelling of a letter in its ranges, each other one a plain frame.
-use Rattle.std.specs.Prelude.{◌≡◌, ℕ, ◌<◌, ◌≤◌, ◌^◌, All, List, length, Some, None, ⊤}
+use Rattle.std.specs.Prelude.{◌≡◌, ◌≢◌, ℕ, ◌<◌, ◌≤◌, ◌^◌, All, List, length, Some, None, ⊤}
 use Rattle.plc_base.specs.Addresses.{IsAddress}
 use Rattle.plc_base.specs.declared.key.Key.{Key}
 use Rattle.mac_frames.specs.Grammar.{IsTarget}
@@ -13,7 +13,7 @@ use Rattle.joining_messages.specs.declared.message.JoinMessage.{JoinMessage}
 use Rattle.pan_discovery.specs.declared.message.Discovery.{Discovery}
 use Rattle.pan_discovery.specs.Messages.{discovery_spelling}
 use Rattle.node_rules.specs.Ciphers.{Ciphers}
-use Rattle.node_rules.specs.Frames.{SealedUnit, Sent, Sealed, Up, Down, spelled}
+use Rattle.node_rules.specs.Frames.{SealedUnit, Sent, Sealed, Up, Down, spelled, to_all}
 use Rattle.line_rules.specs.Worlds.{Flight}
 
 -- A unit that a sealed frame has room for.
@@ -29,6 +29,13 @@ IsRoute (units.Whole mesh octets) = ⊤
 IsRoute (units.Part mesh piece) = ⊤
 IsRoute (units.Carried mesh body) = ⊤
 
+-- a unit with a mesh header goes to one node, and never to all
+abbrev pub GoesToOne : ℕ → Unit → Type 0
+GoesToOne to (units.Local code body) = ⊤
+GoesToOne to (units.Whole mesh octets) = to ≢ to_all
+GoesToOne to (units.Part mesh piece) = to ≢ to_all
+GoesToOne to (units.Carried mesh body) = to ≢ to_all
+
 -- A letter in its ranges.
 pub record IsSealedUnit (l : SealedUnit) : Type 0 where
   pub to : IsTarget l.to
@@ -37,6 +44,7 @@ pub record IsSealedUnit (l : SealedUnit) : Type 0 where
   pub index : l.index ≤ 1
   pub unit : IsFit l.unit
   pub route : IsRoute l.unit
+  pub one : GoesToOne l.to l.unit
 
 -- A flight under a key is the spelling of a letter that this key sealed, under the letter's note.
 pub record SpellsSealedUnit (ciphers : Ciphers) (f : Flight) (key : Key) : Type 0 where

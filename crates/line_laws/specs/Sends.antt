@@ -25,6 +25,7 @@ pub record PieceOf (s : SentAs) (piece : Placed) : Type 0 where
   pub long : 375 < length s.octets
   pub size : length s.octets ≡ piece.size
   pub tag : s.tag ≡ piece.tag
+  pub some : 0 < length piece.octets
   pub fits : FitsAt piece.octets (piece.offset * 8) s.octets
 
 -- S says which sends there were under a note. Under the note there was one from this mesh header's origin to its target, of which C holds.
@@ -57,12 +58,17 @@ pub record BodyIsOf (S : ℕ → SentAs → Type 0) (own : ℕ) (b : Body) : Typ
 abbrev pub PlacedFits : List ℕ → PlacedPiece → Type 0
 PlacedFits all p = FitsAt p.octets p.start all
 
+-- a placed piece has an octet
+abbrev pub HasOctets : PlacedPiece → Type 0
+HasOctets p = 0 < length p.octets
+
 -- A gathered datagram is of a send to this address.
 pub record Gathers (own : ℕ) (r : Reassembly) (s : SentAs) : Type 0 where
   pub long : 375 < length s.octets
   pub size : length s.octets ≡ r.size
   pub tag : s.tag ≡ r.tag
   pub pieces : All (PlacedFits s.octets) r.pieces
+  pub filled : All HasOctets r.pieces
 
 pub record HeldIsOf (S : ℕ → SentAs → Type 0) (own : ℕ) (r : Reassembly) : Type 0 where
   pub gathers : IsOf S r.note r.origin own (Gathers own r)
