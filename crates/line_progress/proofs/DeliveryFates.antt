@@ -8,6 +8,8 @@ use Rattle.plc_base.specs.declared.key.Key.{Key}
 use Rattle.plc_base.specs.Grant.{Granted}
 use Rattle.mesh_header.specs.declared.unit.Mesh.{Mesh}
 use Rattle.mesh_header.specs.declared.unit.Unit.{Unit as MeshUnit}
+use Rattle.mesh_header.specs.declared.unit.Unit.TheVariants as units
+use Rattle.mesh_header.specs.Pieces.{Placed}
 use Rattle.mesh_header.specs.Reading.{unit_in}
 use Rattle.fragment_buffers.specs.Reassembly.{Reassembly}
 use Rattle.fragment_buffers.specs.Taking as pieces
@@ -35,7 +37,7 @@ use Rattle.line_rules.specs.Further.{accepted_further, acknowledged_if, beside_a
 use Rattle.line_rules.specs.Further.{is_reply_taken, unbelieved, with_check}
 use Rattle.line_rules.specs.Steps.{flight_by, handed_by, hearing_outcome, hearing_step, note_by, world_after}
 use Rattle.line_rules.specs.Worlds.{World, Flight, Trace}
-use Rattle.line_progress.specs.UnitFates.{DeliveryFate, IsUp, IsHeld, IsRelayed, IsEnded, IsOfDatagram, IsWhole, IsPiece}
+use Rattle.line_progress.specs.UnitFates.{DeliveryFate, IsUp, IsCompleted, IsHeld, IsRelayed, IsEnded, IsOfDatagram, IsWhole, IsPiece}
 use Rattle.line_progress.specs.UnitFates.{UnitFate, HandedUp, TakenIn, WentOn, Ended}
 use Rattle.line_progress.specs.UnitFates.{Reported, DeliveriesHaveFates, is_unit_end, one_hop_less}
 use Rattle.line_progress.proofs.UnitFates.{unit_fates}
@@ -61,22 +63,23 @@ none_unread l own mesh u note now p (WentOn hop away route is frames) = ap unrea
 none_unread l own mesh u note now p (Ended reason one is none) = ap unread is
 none_unread l own mesh u note now p (Reported is) = ap unread is
 
-module _ (ciphers : Ciphers) (flights : List Flight) (number : ℕ) (u : MeshUnit) (note : ℕ) where
+module _ (ciphers : Ciphers) (flights : List Flight) (number own : ℕ) (u : MeshUnit) (note : ℕ) where
   -- what the answer, the datagram that was handed up and the frames of a node give
   abbrev Said : Reception → List Sent → Type 0
   Said r frames =
-      DeliveryFate ciphers flights number u note r.answer (handed_by number r.up)
+      DeliveryFate ciphers flights number own u note r.answer (handed_by number r.up)
       (flights ++ map (λ (frame : Sent). flight_by number (spelled ciphers frame)) frames)
 
   said_of : (r q : Reception) (frames sent : List Sent) → r ≡ q → frames ≡ sent → Said q sent → Said r frames
   said_of r q frames sent a f said = subst (λ s. Said s frames) (sym a) (subst (λ s. Said q s) (sym f) said)
 
-  said_gathered : (l : StationMemory) (from : ℕ) (held : List Reassembly) (o : pieces.Outcome)
+  said_gathered : (mesh : Mesh) (piece : Placed) → u ≡ units.Part mesh piece → mesh.to ≡ own
+      → (l : StationMemory) (from : ℕ) (held : List Reassembly) (o : pieces.Outcome)
       → Said (says (gathered l from (record { held = held; outcome = o })).answer) (gathered l from (record { held = held; outcome = o })).frames
   unfolding gathered resting
-  said_gathered l from held pieces.Full = IsEnded answers.BufferFull _ refl
-  said_gathered l from held pieces.Held = IsHeld _
-  said_gathered l from held (pieces.Whole n octets) = IsUp n octets _
+  said_gathered mesh piece of to l from held pieces.Full = IsEnded answers.BufferFull _ refl
+  said_gathered mesh piece of to l from held pieces.Held = IsHeld mesh piece _ of to
+  said_gathered mesh piece of to l from held (pieces.Whole n octets) = IsCompleted mesh piece n octets _ of to
 
   said_ended : (reason : Dropped) (frames : List Sent) → is_unit_end reason ≡ true → Said (only (drop_word reason)) frames
   said_ended drops.NoRoute frames e = IsEnded answers.NoRoute _ refl
@@ -102,11 +105,11 @@ module _ (ciphers : Ciphers) (flights : List Flight) (number : ℕ) (u : MeshUni
 
   -- a fate of the unit at the station is one in the event
   said_so : (l : StationMemory) (g : Granted) (k : Key) (mesh : Mesh) (now : ℕ) (p : Hearing) → l.ring ≡ Some g → sealing_key g ≡ Some k
-      → UnitFate l g.address mesh u note now p → Said (says p.answer) p.frames
-  said_so l g k mesh now p ring keyed (HandedUp octets of to is) = subst (λ r. Said (says r) p.frames) (sym is) (IsUp note octets _)
+      → UnitFate l own mesh u note now p → Said (says p.answer) p.frames
+  said_so l g k mesh now p ring keyed (HandedUp octets of to is) = subst (λ r. Said (says r) p.frames) (sym is) (IsUp mesh octets _ of to)
   said_so l g k mesh now p ring keyed (TakenIn piece of to is) =
       let t : pieces.Taking = pieces.taken l.reassemblies mesh.origin piece note now in
-      subst (λ (q : Hearing). Said (says q.answer) q.frames) (sym is) (said_gathered l mesh.origin t.held t.outcome)
+      subst (λ (q : Hearing). Said (says q.answer) q.frames) (sym is) (said_gathered mesh piece of to l mesh.origin t.held t.outcome)
   said_so l g k mesh now p ring keyed (WentOn hop away route is frames) =
       let s : SealedUnit = record {
         to = hop;
@@ -149,21 +152,21 @@ module _ (ciphers : Ciphers) (w : World) (number cost from : ℕ) (y : Node) (oc
   heard_now = hearing_step ciphers y got cost note_of w.clock
 
   abbrev FateOf : World × Trace → Type 0
-  FateOf r = DeliveryFate ciphers w.flights number u note_of r.1.happenings.answer r.1.happenings.up r.0.flights
+  FateOf r = DeliveryFate ciphers w.flights number g.address u note_of r.1.happenings.answer r.1.happenings.up r.0.flights
 
   fate_is : UnitFate m.station g.address mesh u note_of w.clock (hear m.station got cost note_of w.clock)
   fate_is = unit_fates m.station g got from key mesh u cost note_of w.clock ring path unit of
 
-  said : Said ciphers w.flights number u note_of heard_now.answer heard_now.frames
+  said : Said ciphers w.flights number g.address u note_of heard_now.answer heard_now.frames
   said = by_reception (receives ciphers y m runs got cost note_of w.clock (none_unread m.station g.address mesh u note_of w.clock _ fate_is))
     where
       by_reception : Receives (hear m.station got cost note_of w.clock) heard_now
-          → Said ciphers w.flights number u note_of heard_now.answer heard_now.frames
+          → Said ciphers w.flights number g.address u note_of heard_now.answer heard_now.frames
       by_reception (AsPlanned a f e) =
-          said_of ciphers w.flights number u note_of heard_now.answer _ heard_now.frames _ a f
-          (said_so ciphers w.flights number u note_of m.station g k mesh w.clock (hear m.station got cost note_of w.clock) ring keyed fate_is)
+          said_of ciphers w.flights number g.address u note_of heard_now.answer _ heard_now.frames _ a f
+          (said_so ciphers w.flights number g.address u note_of m.station g k mesh w.clock (hear m.station got cost note_of w.clock) ring keyed fate_is)
       by_reception (HasHalted a f e) =
-          said_of ciphers w.flights number u note_of heard_now.answer (only answers.Store) heard_now.frames heard_now.frames a refl
+          said_of ciphers w.flights number g.address u note_of heard_now.answer (only answers.Store) heard_now.frames heard_now.frames a refl
           (IsEnded answers.Store _ refl)
 
   heard_fate : FateOf (hearing_outcome ciphers w number y octets got cost)
@@ -205,5 +208,5 @@ delivery_fates ciphers w number cost from x octets got m g key k mesh u known is
     else hearing_outcome_by ciphers w number d.node octets got cost (command_of got)) =
     (λ i. if known i then discovers_by w number x octets cost x.memory else accepted_further ciphers w number octets cost d)
     ∙ (λ i. accepted_further ciphers w number octets cost (record d { answer = is i })) in
-    subst (λ (r : World × Trace). DeliveryFate ciphers w.flights number u (note_by w octets got.path) r.1.happenings.answer r.1.happenings.up r.0.flights)
-    (sym way) (outcome_fate ciphers w number cost from d.node octets got m g key k mesh u path unit of runs ring keyed)
+    subst (λ (r : World × Trace). DeliveryFate ciphers w.flights number g.address u (note_by w octets got.path) r.1.happenings.answer
+    r.1.happenings.up r.0.flights) (sym way) (outcome_fate ciphers w number cost from d.node octets got m g key k mesh u path unit of runs ring keyed)

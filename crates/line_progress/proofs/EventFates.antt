@@ -211,7 +211,7 @@ module _ (ciphers : Ciphers) (w : World) (number : ℕ) (l : StationMemory) (the
 
 -- # Bodies
 
-among_mapped : {A B : Type 0} (f : A → B) (x : A) (xs : List A) → Among x xs → Among (f x) (map f xs)
+pub among_mapped : {A B : Type 0} (f : A → B) (x : A) (xs : List A) → Among x xs → Among (f x) (map f xs)
 among_mapped f x xs (Here rest) = Here (map f rest)
 among_mapped f x xs (Later y rest more) = Later (f y) (map f rest) (among_mapped f x rest more)
 

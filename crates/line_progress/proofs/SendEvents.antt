@@ -1,5 +1,5 @@
 -- What an event makes of a datagram that is to be sent, whatever power is lost.
-use Rattle.std.proofs.Common.{arith, ◌<◌, ◌≡◌, ℕ, zero, suc, ◌+◌, Bool, true, false, List, [], ◌∷◌, ◌++◌, length, map, Option, Some, Result, Ok, Err}
+use Rattle.std.proofs.Common.{arith, ◌<◌, ◌≤◌, ◌≡◌, ℕ, zero, suc, ◌+◌, Bool, true, false, List, [], ◌∷◌, ◌++◌, length, map, Option, Some, Result, Ok, Err}
 use Rattle.std.proofs.Common.{refl, sym, ap, subst, ◌∙◌}
 use Rattle.std.specs.Prelude.{slice_get}
 use Rattle.std.specs.Option.{option_map, option_and_then}
@@ -76,20 +76,21 @@ module _ (ciphers : Ciphers) (w : World) (from to dest : ℕ) (datagram : List �
       (ap (λ (o : Option Node). option_and_then (λ (y : Node). option_map (λ (n : Memory). n.station) y.memory) o)
       (slice_get-set w.nodes from d.node (inside w.nodes from x there)) ∙ memory) waiting
 
-  it_flies : (d : NodeStep (Result SentHow SendRefusal)) (frames : List Sent) (own hop : ℕ) → address_of l ≡ Some own → next_hop l dest ≡ Some hop
+  it_flies : (d : NodeStep (Result SentHow SendRefusal)) (frames : List Sent) (own hop : ℕ) → length datagram ≤ 1280
+      → address_of l ≡ Some own → next_hop l dest ≡ Some hop
       → d.answer ≡ Ok how_of.Sent → d.frames ≡ frames
       → frames ≡ sealed_by l.ring l.counter.next (all_go hop (w.sends + 1) (units_of own dest (Datagram datagram l.next_tag)))
       → SendEventFate ciphers w from dest datagram l (sent_if w from to datagram tag true (node_outcome ciphers w from (answering sent_word d)))
   unfolding world_after
-  it_flies d frames own hop address route a f is =
-      Flew own hop address route (ap sent_word a)
+  it_flies d frames own hop short address route a f is =
+      Flew own hop short address route (ap sent_word a)
       (ap (λ (fs : List Sent). w.flights ++ map (λ (frame : Sent). flight_by from (spelled ciphers frame)) fs) (f ∙ is))
 
   by_fate : (d : NodeStep (Result SentHow SendRefusal)) (p : Sending) → d.answer ≡ p.answer → d.frames ≡ p.frames
       → option_map (λ (n : Memory). n.station) d.node.memory ≡ Some p.memory → SendFate l dest datagram (w.sends + 1) w.clock p
       → SendEventFate ciphers w from dest datagram l (After d)
-  by_fate d p a f memory (WentOut own hop address route is frames) =
-      taken d how_of.Sent (a ∙ is) (λ b e. it_flies d p.frames own hop address route (a ∙ is) f frames)
+  by_fate d p a f memory (WentOut own hop short address route is frames) =
+      taken d how_of.Sent (a ∙ is) (λ b e. it_flies d p.frames own hop short address route (a ∙ is) f frames)
   by_fate d p a f memory (Waits is waiting) = taken d how_of.Waiting (a ∙ is) (λ b e. it_stays d p.memory (a ∙ is) memory waiting)
   by_fate d p a f memory (Refused reason is same none) = none_taken d reason (a ∙ is) (f ∙ none)
 

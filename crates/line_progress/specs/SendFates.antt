@@ -1,5 +1,5 @@
 -- What becomes of a datagram that is to be sent: in one step of a station, and in an event of a line.
-use Rattle.std.specs.Prelude.{◌≡◌, ℕ, ◌+◌, map, true, false, List, [], ◌∷◌, ◌++◌, Some, Ok, Err, IfSome}
+use Rattle.std.specs.Prelude.{◌≡◌, ℕ, ◌+◌, ◌≤◌, length, map, true, false, List, [], ◌∷◌, ◌++◌, Some, Ok, Err, IfSome}
 use Rattle.fragment_buffers.specs.Loads.{all_go, units_of}
 use Rattle.node_rules.specs.declared.heard.SentHow.TheVariants as how
 use Rattle.node_rules.specs.declared.refusal.SendRefusal.{SendRefusal}
@@ -18,9 +18,10 @@ use Rattle.line_progress.specs.Stations.{station_at}
 
 -- # A datagram that is to be sent
 
--- What becomes of it: its units go out by the next hop under its note, or it waits for a route, or the call refuses it and nothing changes.
+-- What becomes of it: it has at most 1,280 octets and its units go out by the next hop under its note, or it waits for a route, or the call refuses
+-- it and nothing changes.
 pub data SendFate (l : StationMemory) (to : ℕ) (datagram : List ℕ) (note now : ℕ) (p : Sending) : Type 0 where
-  WentOut : (own hop : ℕ) → address_of l ≡ Some own → next_hop l to ≡ Some hop → p.answer ≡ Ok how.Sent
+  WentOut : (own hop : ℕ) → length datagram ≤ 1280 → address_of l ≡ Some own → next_hop l to ≡ Some hop → p.answer ≡ Ok how.Sent
       → p.frames ≡ sealed_by l.ring l.counter.next (all_go hop note (units_of own to (Datagram datagram l.next_tag)))
       → SendFate l to datagram note now p
   Waits : p.answer ≡ Ok how.Waiting
@@ -36,7 +37,7 @@ SendsHaveFates =
 
 -- What an event makes of it: its units are the new flights, it is the last body that waits, or it is not taken and no flight is new.
 pub data SendEventFate (ciphers : Ciphers) (w : World) (from dest : ℕ) (datagram : List ℕ) (l : StationMemory) (r : World × Trace) : Type 0 where
-  Flew : (own hop : ℕ) → address_of l ≡ Some own → next_hop l dest ≡ Some hop → r.1.happenings.answer ≡ answers.Sent
+  Flew : (own hop : ℕ) → length datagram ≤ 1280 → address_of l ≡ Some own → next_hop l dest ≡ Some hop → r.1.happenings.answer ≡ answers.Sent
       → r.0.flights
       ≡ w.flights ++ map (λ (frame : Sent). flight_by from (spelled ciphers frame))
       (sealed_by l.ring l.counter.next (all_go hop (w.sends + 1) (units_of own dest (Datagram datagram l.next_tag))))

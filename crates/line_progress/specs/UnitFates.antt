@@ -78,15 +78,19 @@ is_datagram_end answers.Reported = true
 is_datagram_end answers.Store = true
 is_datagram_end _ = false
 
--- What the report and the flights say of it: a datagram is handed up, a piece is held, one flight more has the unit with one hop less
--- under the same note, or the answer ends it.
-pub data DeliveryFate (ciphers : Ciphers) (flights : List Flight) (number : ℕ) (u : MeshUnit) (note : ℕ) : Answer → Option Handed → List Flight → Type 0 where
-  IsUp : (n : ℕ) (octets : List ℕ) (after : List Flight)
-      → DeliveryFate ciphers flights number u note answers.Up (Some (record { node = number; note = n; octets = octets })) after
-  IsHeld : (after : List Flight) → DeliveryFate ciphers flights number u note answers.Held None after
+-- What the report and the flights say of it at a node of an own address: a datagram for the node is handed up under its note, a piece for it
+-- makes one whole, under some note, or is held; one flight more has the unit with one hop less under the same note; or the answer ends it.
+pub data DeliveryFate (ciphers : Ciphers) (flights : List Flight) (number own : ℕ) (u : MeshUnit) (note : ℕ)
+    : Answer → Option Handed → List Flight → Type 0 where
+  IsUp : (mesh : Mesh) (octets : List ℕ) (after : List Flight) → u ≡ units.Whole mesh octets → mesh.to ≡ own
+      → DeliveryFate ciphers flights number own u note answers.Up (Some (record { node = number; note = note; octets = octets })) after
+  IsCompleted : (mesh : Mesh) (piece : Placed) (n : ℕ) (octets : List ℕ) (after : List Flight) → u ≡ units.Part mesh piece → mesh.to ≡ own
+      → DeliveryFate ciphers flights number own u note answers.Up (Some (record { node = number; note = n; octets = octets })) after
+  IsHeld : (mesh : Mesh) (piece : Placed) (after : List Flight) → u ≡ units.Part mesh piece → mesh.to ≡ own
+      → DeliveryFate ciphers flights number own u note answers.Held None after
   IsRelayed : (s : SealedUnit) → s.unit ≡ one_hop_less u → s.note ≡ note
-      → DeliveryFate ciphers flights number u note answers.Relayed None (flights ++ flight_by number (spelled ciphers (Sealed s)) ∷ [])
-  IsEnded : (answer : Answer) (after : List Flight) → is_datagram_end answer ≡ true → DeliveryFate ciphers flights number u note answer None after
+      → DeliveryFate ciphers flights number own u note answers.Relayed None (flights ++ flight_by number (spelled ciphers (Sealed s)) ∷ [])
+  IsEnded : (answer : Answer) (after : List Flight) → is_datagram_end answer ≡ true → DeliveryFate ciphers flights number own u note answer None after
 
 -- Whatever power is lost: a node accepts the octets that come to it, they carry a unit of a datagram, and the node then runs, is joined and
 -- has a key to seal with. The event of a delivery is this one, by `Comes` of `line_rules`.
@@ -97,4 +101,4 @@ DeliveriesHaveFates =
     → got.path ≡ paths.Sealed from false key → unit_in got.payload ≡ Some u → IsOfDatagram mesh u
     → (accepting ciphers x octets).node.memory ≡ Some m → m.station.ring ≡ Some g → sealing_key g ≡ Some k
     → let r = comes ciphers w number x octets cost in
-    DeliveryFate ciphers w.flights number u (note_by w octets got.path) r.1.happenings.answer r.1.happenings.up r.0.flights
+    DeliveryFate ciphers w.flights number g.address u (note_by w octets got.path) r.1.happenings.answer r.1.happenings.up r.0.flights

@@ -12,6 +12,7 @@ use Rattle.mesh_header.specs.declared.unit.Unit.{Unit as MeshUnit}
 use Rattle.mesh_header.specs.declared.unit.Unit.TheVariants as units
 use Rattle.mesh_header.specs.Pieces.{Placed}
 use Rattle.fragment_buffers.specs.Reassembly.{begun, placed}
+use Rattle.node_rules.specs.Accepted.{Accepted}
 use Rattle.node_rules.specs.Ciphers.{Ciphers, network}
 use Rattle.node_rules.specs.Drafts.{sealing_key}
 use Rattle.node_rules.specs.Memory.{Memory, Node, StationMemory, address_of}
@@ -58,8 +59,8 @@ module _ (ciphers : Ciphers) (w : World) (number : ℕ) (x : Node) (there : node
   injects_so cost octets =
       once _ w _ (at_node _ w number _ (λ y e. Taken _ (cost, λ i. comes ciphers w number (same_Some x y (sym there ∙ e) i) octets cost)))
 
-comes_so : (ciphers : Ciphers) (w : World) (event : Event) (number : ℕ) (octets : List ℕ) → Comes w event number octets → (x : Node) → node_at w number ≡ Some x
-    → (r : World × Trace) → line_step ciphers w event ≡ Ok r → ComesAs ciphers w number x octets r
+pub comes_so : (ciphers : Ciphers) (w : World) (event : Event) (number : ℕ) (octets : List ℕ) → Comes w event number octets → (x : Node)
+    → node_at w number ≡ Some x → (r : World × Trace) → line_step ciphers w event ≡ Ok r → ComesAs ciphers w number x octets r
 comes_so ciphers w event number octets (OfFlight flight n cost f found) x there r e =
     outcome_has (ComesAs ciphers w number x octets) (delivers ciphers w flight number cost) r (delivers_so ciphers w number x there flight cost f found) e
 comes_so ciphers w event number octets (OfScript n cost o) x there r e =
@@ -103,6 +104,22 @@ takes_flights ciphers w (events.Deliver number node cost) r e =
 takes_flights ciphers w (events.Lose number) r e = outcome_has (Takes ciphers w (events.Lose number)) (lose w number) r (loses_live ciphers w number) e
 takes_flights ciphers w _ r e = tt
 
+-- # Nodes
+
+-- the station of a node on the line
+pub station_there : (w : World) (number : ℕ) (y : Node) (m : Memory) → node_at w number ≡ Some y → y.memory ≡ Some m → station_at w number ≡ Some m.station
+station_there w number y m there runs =
+    (λ i. option_and_then (λ (x : Node). option_map (λ (m : Memory). m.station) x.memory) (there i))
+    ∙ ap (option_map (λ (m : Memory). m.station)) runs
+
+-- what a node accepts is no frame of discovery
+pub undiscovered : (y : Node) (octets : List ℕ) (got : Accepted) → (accepting network y octets).answer ≡ Ok got → is_discovery octets ≡ false
+undiscovered y octets got is = by_test (is_discovery octets) refl
+  where
+    by_test : (b : Bool) → is_discovery octets ≡ b → b ≡ false
+    by_test true e = absurd (none_accepts network y octets e got is)
+    by_test false e = refl
+
 -- # The keys of nodes
 
 -- each node that is joined has the key that it seals with
@@ -113,7 +130,7 @@ some_key : (o : Option Key) → is_some o ≡ true → (key : Key) × (o ≡ Som
 some_key None e = absurd (cc)
 some_key (Some key) e = (key, refl)
 
-have_keys : (w : World) → All NodeOk w.nodes → HaveKeys w
+pub have_keys : (w : World) → All NodeOk w.nodes → HaveKeys w
 have_keys w ok number l e g ring = by_node (node_at w number) refl e
   where
     by_memory : (x : Node) → node_at w number ≡ Some x → (o : Option Memory) → x.memory ≡ o
@@ -143,36 +160,29 @@ nobody_yet number l e = absurd (none number e)
 module _ (came : DatagramsCame) (flew : SendsFly) (delivered : DeliveriesHaveFates) (arrive : PiecesArrive) (bodies : EventsKeepBodies)
     (gathered : EventsKeepPieces) (flights : EventsKeepFlights) where
   module _ (w : World) (keys : HaveKeys w) (x : Entry) (step : line_step network w x.event ≡ Ok (x.after, x.trace)) where
-    -- the station of a node on the line
-    at_station : (number : ℕ) (y : Node) (m : Memory) → node_at w number ≡ Some y → y.memory ≡ Some m → station_at w number ≡ Some m.station
-    at_station number y m there runs =
-        (λ i. option_and_then (λ (x : Node). option_map (λ (m : Memory). m.station) x.memory) (there i))
-        ∙ ap (option_map (λ (m : Memory). m.station)) runs
-
-    undiscovered : (y : Node) (octets : List ℕ) (got : _) → (accepting network y octets).answer ≡ Ok got → is_discovery octets ≡ false
-    undiscovered y octets got is = by_test (is_discovery octets) refl
-      where
-        by_test : (b : Bool) → is_discovery octets ≡ b → b ≡ false
-        by_test true e = absurd (none_accepts network y octets e got is)
-        by_test false e = refl
-
     unit_moves : (number : ℕ) (mesh : Mesh) (u : MeshUnit) (c : UnitCame w x.event number u) → IsOfDatagram mesh u
-        → DeliveryFate network w.flights number u (note_under w x.event number u c) x.trace.happenings.answer x.trace.happenings.up x.after.flights
+        → (own : ℕ) × IsAt w number own
+        × DeliveryFate network w.flights number own u (note_under w x.event number u c) x.trace.happenings.answer x.trace.happenings.up x.after.flights
     unit_moves number mesh u c of =
         let j = still_joined network c.node c.octets c.got c.from false c.key c.path c.accepted in
-        let k = keys number j.memory.station (at_station number c.node j.memory c.there j.there) j.granted j.ring in
+        let here = station_there w number c.node j.memory c.there j.there in
+        let k = keys number j.memory.station here j.granted j.ring in
         let so = comes_so network w x.event number c.octets c.comes c.node c.there (x.after, x.trace) step in
-        let note = note_under w x.event number u c in
-        subst (λ (r : World × Trace). DeliveryFate network w.flights number u note r.1.happenings.answer r.1.happenings.up r.0.flights) so.1
-        (delivered network w number so.0 c.from c.node c.octets c.got j.now j.granted c.key k.0 mesh u (undiscovered c.node c.octets c.got c.accepted)
-        c.accepted c.path c.read of j.runs j.kept k.1)
+        let note = note_under w x.event number u c in (
+          j.granted.address,
+          (j.memory.station, here, ap (option_map (λ (g : Granted). g.address)) j.ring),
+          subst (λ (r : World × Trace). DeliveryFate network w.flights number j.granted.address u note r.1.happenings.answer r.1.happenings.up r.0.flights)
+              so.1
+              (delivered network w number so.0 c.from c.node c.octets c.got j.now j.granted c.key k.0 mesh u (undiscovered c.node c.octets c.got c.accepted)
+              c.accepted c.path c.read of j.runs j.kept k.1),
+        )
 
     piece_moves : (number : ℕ) (mesh : Mesh) (piece : Placed) (c : UnitCame w x.event number (units.Part mesh piece)) → IsAt w number mesh.to
         → ArrivingFate number (begun mesh.origin piece (note_under w x.event number (units.Part mesh piece) c) w.clock) (placed piece) (x.after, x.trace)
     piece_moves number mesh piece c at =
         let j = still_joined network c.node c.octets c.got c.from false c.key c.path c.accepted in
         let l : at.0 ≡ j.memory.station =
-        same_Some at.0 j.memory.station (sym at.1 ∙ at_station number c.node j.memory c.there j.there) in
+        same_Some at.0 j.memory.station (sym at.1 ∙ station_there w number c.node j.memory c.there j.there) in
         let own : address_of j.now.station ≡ Some mesh.to =
         ap (option_map (λ (g : Granted). g.address)) (j.kept ∙ sym j.ring ∙ ap (λ (s : StationMemory). s.ring) (sym l)) ∙ at.2 in
         let so = comes_so network w x.event number c.octets c.comes c.node c.there (x.after, x.trace) step in

@@ -1,5 +1,15 @@
-mod Choices
 mod BesideSizes
+mod Choices
+mod DatagramFates
+mod FateAccepting
+mod FateEvents
+mod FateFlights
+mod FateFlying
+mod FateLists
+mod FateOverlaps
+mod FateSends
+mod FateSteps
+mod FateUnits
 mod SealedCame
 mod Datagrams
 mod OctetPlaces

@@ -64,14 +64,14 @@ few_issued n count = by_test (nat_le 1 n && nat_le n count)
     by_test false = omega arith
 
 -- A node that runs, and what it keeps.
-record RunsAt (w : World) (number : ℕ) (l : StationMemory) : Type 0 where
-  node : Node
-  there : node_at w number ≡ Some node
-  memory : Memory
-  runs : node.memory ≡ Some memory
-  is : memory.station ≡ l
+pub record RunsAt (w : World) (number : ℕ) (l : StationMemory) : Type 0 where
+  pub node : Node
+  pub there : node_at w number ≡ Some node
+  pub memory : Memory
+  pub runs : node.memory ≡ Some memory
+  pub is : memory.station ≡ l
 
-runs_at : (w : World) (number : ℕ) (l : StationMemory) → station_at w number ≡ Some l → RunsAt w number l
+pub runs_at : (w : World) (number : ℕ) (l : StationMemory) → station_at w number ≡ Some l → RunsAt w number l
 runs_at w number l e = by_node (node_at w number) refl e
   where
     by_memory : (x : Node) → node_at w number ≡ Some x → (o : Option Memory) → x.memory ≡ o → option_map (λ (m : Memory). m.station) o ≡ Some l
@@ -85,7 +85,7 @@ runs_at w number l e = by_node (node_at w number) refl e
     by_node (Some x) there e = by_memory x there x.memory refl e
 
 -- a flight stands at the place before its number
-numbered : (w : World) (number : ℕ) (f : Flight) → flight_at w number ≡ Some f → (1 ≤ number) × (slice_get w.flights (number - 1) ≡ Some f)
+pub numbered : (w : World) (number : ℕ) (f : Flight) → flight_at w number ≡ Some f → (1 ≤ number) × (slice_get w.flights (number - 1) ≡ Some f)
 numbered w zero f e = absurd (cc)
 numbered w (suc k) f e =
     (omega arith, sym (ap (λ b. if b then None else slice_get w.flights (suc k - 1)) (ne_eqb (suc k) 0 (λ (h : suc k ≡ 0). cc))) ∙ e)

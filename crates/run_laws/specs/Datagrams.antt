@@ -67,9 +67,10 @@ pub record MovesDatagrams (w : World) (x : Entry) : Type 0 where
   pub up_came : IfSome x.trace.happenings.up (DatagramCame network w x.event)
   -- a datagram that was sent is in the new flights, each of its units in one, or it is the last body that waits
   pub sent_flew : IfSome x.trace.sent (λ (s : Sending). SendFlew network w x.event s (x.after, x.trace))
-  -- a unit that comes is handed up, held, sent on in the one new flight, or ends, by the answer
+  -- a unit that comes is handed up, held, sent on in the one new flight, or ends, by the answer and the address of the node
   pub unit_came : (number : ℕ) (mesh : Mesh) (u : MeshUnit) (came : UnitCame w x.event number u) → IsOfDatagram mesh u
-      → DeliveryFate network w.flights number u (note_under w x.event number u came) x.trace.happenings.answer x.trace.happenings.up x.after.flights
+      → (own : ℕ) × IsAt w number own
+      × DeliveryFate network w.flights number own u (note_under w x.event number u came) x.trace.happenings.answer x.trace.happenings.up x.after.flights
   -- a piece that comes to its target is gathered, or makes its datagram whole, or has no room, or the node halts
   pub piece_came : (number : ℕ) (mesh : Mesh) (piece : Placed) (came : UnitCame w x.event number (units.Part mesh piece)) → IsAt w number mesh.to
       → ArrivingFate number (begun mesh.origin piece (note_under w x.event number (units.Part mesh piece) came) w.clock) (placed piece) (x.after, x.trace)

@@ -3,3 +3,4 @@ pub mod BesideSizes
 pub mod Datagrams
 pub mod OctetPlaces
 pub mod RunLaws
+pub mod DatagramFates

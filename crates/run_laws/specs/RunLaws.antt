@@ -1,10 +1,11 @@
 -- What the laws here say of every run.
 use Rattle.std.specs.Prelude.{All, List, []}
 use Rattle.node_rules.specs.Ciphers.{network}
-use Rattle.line_rules.specs.Runs.{Entry, IsLineRun}
+use Rattle.line_rules.specs.Runs.{Entry, IsLineRun, NoneForged, last_world}
 use Rattle.line_rules.specs.Worlds.{start}
 use Rattle.run_laws.specs.BesideSizes.{IsBesideSized}
 use Rattle.run_laws.specs.Choices.{AreChosenRightAfter}
+use Rattle.run_laws.specs.DatagramFates.{HaveFates}
 use Rattle.run_laws.specs.Datagrams.{MoveDatagrams}
 use Rattle.run_laws.specs.OctetPlaces.{StayAtOnePlaceAfter}
 
@@ -14,6 +15,7 @@ pub record IsLawful (entries : List Entry) : Type 0 where
   pub beside : All (λ (x : Entry). IsBesideSized x.after) entries
   pub datagrams : MoveDatagrams start entries
   pub places : StayAtOnePlaceAfter [] entries
+  pub fates : NoneForged entries → HaveFates entries (last_world start entries)
 
 -- so it is of every run of the network
 abbrev pub EveryRunIsLawful : Type 0

@@ -1,12 +1,15 @@
 //! Laws of runs: each stands as the contract of a function that does nothing.
 ghost use Rattle.run_laws.specs.Choices.{EveryChoiceIsRight};
 ghost use Rattle.run_laws.specs.BesideSizes.{TablesBesideKeepTheirSizes};
+ghost use Rattle.run_laws.specs.DatagramFates.{EverySendHasAFate};
 ghost use Rattle.run_laws.specs.Datagrams.{EveryDatagramIsMoved};
 ghost use Rattle.run_laws.specs.OctetPlaces.{EveryOctetIsAtOnePlace};
 ghost use Rattle.run_laws.specs.RunLaws.{EveryRunIsLawful};
 
 use line_laws::{
-    every_history_is_kept, every_log_is_kept, every_run_holds, every_run_holds_throughout,
+    every_count_is_right, every_flight_falls, every_flight_is_octets, every_forgery_is_reported,
+    every_history_is_kept, every_log_is_kept, every_nonce_differs, every_run_holds,
+    every_run_holds_throughout, every_tag_rises, network_keeps_ranges, the_start_holds,
 };
 use line_progress::{
     datagrams_came, deliveries_have_fates, events_keep_bodies, events_keep_flights,
@@ -58,6 +61,24 @@ pub fn every_octet_is_at_one_place()
     every_run_holds_throughout();
 }
 
+/// In every run of the network without a forged event, whatever power is lost and whatever octets are injected, after each event: each octet of each
+/// datagram that was sent was handed up; is in a flight of a number, lost or not, that nobody accepted; waits or is gathered at a node of a number; or was
+/// ended by an event of a number, which answered NoRoute, HopsSpent, CounterSpent, BufferFull, Reported or Store where the node accepted it, or else by
+/// time, a restart, a leave or a loss of power.
+pub fn every_send_has_a_fate()
+    ensures { EverySendHasAFate }
+{
+    every_run_holds_throughout();
+    every_nonce_differs();
+    every_forgery_is_reported();
+    every_flight_falls();
+    every_flight_is_octets();
+    every_tag_rises();
+    every_count_is_right();
+    network_keeps_ranges();
+    the_start_holds();
+}
+
 /// In every run of the network these laws hold.
 pub fn every_run_is_lawful()
     ensures { EveryRunIsLawful }
@@ -66,4 +87,5 @@ pub fn every_run_is_lawful()
     tables_beside_keep_their_sizes();
     every_datagram_is_moved();
     every_octet_is_at_one_place();
+    every_send_has_a_fate();
 }

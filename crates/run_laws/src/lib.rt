@@ -4,6 +4,7 @@
 //! - What a node keeps beside its memory passes no size ([`tables_beside_keep_their_sizes`]).
 //! - What an event does to datagrams: what it hands up, sends, and leaves of what waits, is gathered or flies ([`every_datagram_is_moved`]).
 //! - No octet of a datagram is at two places at once ([`every_octet_is_at_one_place`]).
+//! - What became of each octet of each datagram that was sent is one of a closed list of fates ([`every_send_has_a_fate`]).
 //!
 //! [`every_run_is_lawful`] has them in one record, which `line_replay` says of its run.
 #![tactic(auto)]
@@ -12,5 +13,5 @@ mod laws;
 
 pub use laws::{
     every_choice_is_right, every_datagram_is_moved, every_octet_is_at_one_place,
-    every_run_is_lawful, tables_beside_keep_their_sizes,
+    every_run_is_lawful, every_send_has_a_fate, tables_beside_keep_their_sizes,
 };

@@ -7,4 +7,5 @@ returns c entries run = record {
   beside = c.tables_beside_keep_their_sizes.ensures entries run;
   datagrams = c.every_datagram_is_moved.ensures entries run;
   places = c.every_octet_is_at_one_place.ensures entries run;
+  fates = c.every_send_has_a_fate.ensures entries run;
 }
