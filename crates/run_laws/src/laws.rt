@@ -7,6 +7,7 @@ ghost use Rattle.run_laws.specs.RunLaws.{EveryRunIsLawful};
 
 use line_laws::{
     every_history_is_kept, every_log_is_kept, every_run_holds, every_run_holds_throughout,
+    every_run_stays_in_open_custody,
 };
 use line_progress::{
     datagrams_came, deliveries_have_fates, events_keep_bodies, events_keep_flights,
@@ -51,11 +52,13 @@ pub fn every_datagram_is_moved()
 }
 
 /// In every run of the network, before its first forged event, over restarts and failed writes, after each event: no octet of a datagram that was sent is at
-/// two places at once, of those that were handed up, the flights that may still come, what waits for a route, and what is gathered.
+/// two places at once, of those that were handed up, the flights, what waits for a route, and what is gathered. So it is where the flights count that may
+/// still come, and where those count that no node has accepted so far.
 pub fn every_octet_is_at_one_place()
     ensures { EveryOctetIsAtOnePlace }
 {
     every_run_holds_throughout();
+    every_run_stays_in_open_custody();
 }
 
 /// In every run of the network these laws hold.
