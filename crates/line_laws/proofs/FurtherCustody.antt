@@ -40,23 +40,22 @@ use Rattle.line_rules.specs.Logs.{LogsKept}
 use Rattle.line_rules.specs.Runs.{Entry, issued}
 use Rattle.line_rules.specs.Steps.{Step, node_outcome, flights_of, identity, made_node, offered_near, running_world, sent_if, set_up, step, ticked, world_after}
 use Rattle.line_rules.specs.Traces.{ComesTo}
-use Rattle.line_rules.specs.Worlds.{World, Flight, Trace, Sending, node_at}
+use Rattle.line_rules.specs.Worlds.{World, Flight, Issued, Trace, Sending, node_at}
 use Rattle.line_laws.specs.InCustody.{Custody, FlightIsOf, StationIsTrue, SentUnder, sent_as}
 use Rattle.line_laws.specs.Keyed.{Keyed}
 use Rattle.line_laws.specs.Later.{flown as flown_world}
 use Rattle.line_laws.specs.SealedUnits.{IsFlight}
 use Rattle.line_laws.specs.Lines.{WorldOk}
-use Rattle.line_laws.specs.Live.{live}
 use Rattle.line_laws.specs.Places.{LiveFalls, flight_is, live_is}
 use Rattle.line_laws.specs.Ranges.{IsStationRanged, NodeRanged, WorldRanged}
 use Rattle.line_laws.specs.Sends.{SentAs}
 use Rattle.line_laws.specs.Tags.{TagRises}
 use Rattle.line_laws.proofs.CustodyCalls.{zero_weight}
 use Rattle.line_laws.proofs.CustodyKeeps.{PlanClean, acts_clean, join_clean}
-use Rattle.line_laws.proofs.CustodyRuns.{After as AfterOld, after_event}
+use Rattle.line_laws.proofs.CustodyRuns.{After as AfterOld, Owed, after_event}
 use Rattle.line_laws.proofs.CustodySteps.{HomedAt, falls_on, ran_at, after_at}
 use Rattle.line_laws.proofs.CustodyTrue.{SentIsOf}
-use Rattle.line_laws.proofs.FurtherAddresses.{moved_falls, moved_homed}
+use Rattle.line_laws.proofs.FurtherAddresses.{moved_homed}
 use Rattle.line_laws.proofs.FurtherKeyed.{moved_keyed, old_keyed}
 use Rattle.line_laws.proofs.FurtherRanges.{one_speaks}
 use Rattle.line_laws.proofs.FurtherSame.{OldStep, line_step_same}
@@ -72,7 +71,6 @@ use Rattle.line_laws.proofs.Readings.{network_ranges}
 use Rattle.line_laws.proofs.StoreMarks.{Accepts, Marked, Plain, Turned, accept_is}
 use Rattle.line_laws.proofs.StepKinds as step_kinds
 use Rattle.line_laws.proofs.StepKinds.{IsStep}
-use Rattle.line_laws.proofs.UpsSent.{owed_at}
 use Rattle.line_laws.proofs.Worlds.{at_place}
 
 none_some : {A : Type 0} (x : A) → None ≡ Some x → ⊥
@@ -260,16 +258,25 @@ module _ (S : ℕ → SentAs → Type 0) (home : ℕ → ℕ) (L : Flight → Bo
 
 -- # Events
 
-module _ (home : ℕ → ℕ) (apart : (i j : ℕ) → home i ≡ home j → i ≡ j) (sent : List Sending) (rises : AllPairs TagRises sent)
+-- An event as an entry of no number.
+abbrev pub entry_of : Event → World × Trace → Entry
+entry_of event q = record { number = 0; event = event; trace = q.1; after = q.0 }
+
+-- for any set of live flights of which this is owed: at an event as it is without further reach, and where nodes then only do things by themselves
+module _ (live : World → Flight → Bool) (lost : (w : World) (f : Flight) → live w (record f { lost = true }) ≡ true → live w f ≡ true)
+    (home : ℕ → ℕ) (apart : (i j : ℕ) → home i ≡ home j → i ≡ j) (sent : List Sending) (rises : AllPairs TagRises sent)
     (some : All (λ (s : Sending). 0 < length s.datagram) sent) (w : World) (before : List Handed)
     (c : Custody network live (SentUnder home sent) home w before) (ok : WorldOk w) (s : WorldSpeaks w) (r : WorldRanged w) (past : List Entry)
-    (k : Keyed w (issued past)) (first : home 0 ≡ 0) (homed : HomedAt home w) where
+    (k : Keyed w (issued past)) (first : home 0 ≡ 0) (homed : HomedAt home w)
+    (moved : (v u : World) → Moves IsOne IsDiscovery network v u → WorldOk v → v.running ≡ true → (given : List Issued) → Keyed v given → Keyed u given
+    → LiveFalls live v u None)
+    (unsent : (v : World) (f : Flight) → live (record v { flights = w.flights; made = w.made; beside = w.beside }) f ≡ true → live v f ≡ true) where
   abbrev S : ℕ → SentAs → Type 0
   S = SentUnder home sent
 
   -- what holds after an event, and of what it hands up
   abbrev pub HoldsThen : Event → World → Option Handed → Type 0
-  HoldsThen event v up = AfterOld network network_opens_again network_ranges live (λ w f e. e) home apart sent rises some w event before v up
+  HoldsThen event v up = AfterOld network network_opens_again network_ranges live lost home apart sent rises some w event before v up
 
   -- where no flight comes to life, homes are those after it, what it hands up comes to its node, and what it sends is of the sends
   abbrev pub Done : Event → Step → Type 0
@@ -323,17 +330,14 @@ module _ (home : ℕ → ℕ) (apart : (i j : ℕ) → home i ≡ home j → i �
       (λ m here h own. chosen_clean S (home number) m h own (beside_at w number) (identity network x psk) (short_at w ok s r number x psk there m here) count
       w.clock))
 
-  module _ (event : Event) (says : IsEvent event) where
-    abbrev entry : World × Trace → Entry
-    entry q = record { number = 0; event = event; trace = q.1; after = q.0 }
-
+  module _ (event : Event) (says : IsEvent event)
+      (owed : (q : World × Trace) → step network w event ≡ Ok q → Owed network live w (entry_of event q)) where
     -- as without further reach
     same_done : (q : World × Trace) → step network w event ≡ Ok q → HomedAt home q.0 → IfSome q.1.happenings.up (λ (u : Handed). ComesTo event u.node)
         → ((z : Sending) → q.1.sent ≡ Some z → S (w.sends + 1) (sent_as home z)) → q.1.happenings.forged ≡ false → HoldsThen event q.0 q.1.happenings.up
     same_done q is later up_at is_sent honest =
-        let owed = owed_at w past (record { ok = ok; speaks = s; ranged = r; keyed = k }) (entry q) says is in
-        after_event network network_opens_again network_ranges live (λ w f e. e) home apart sent rises some w before c ok s.flights (entry q) says is up_at
-        is_sent owed (issued past) k first homed later honest
+        after_event network network_opens_again network_ranges live lost home apart sent rises some w before c ok s.flights (entry_of event q) says is
+        up_at is_sent (owed q is) (issued past) k first homed later honest
 
     -- and then moves
     then_done : (q : World × Trace) (v : World) (up : Option Handed) → up ≡ q.1.happenings.up → Moves IsOne IsDiscovery network q.0 v
@@ -360,8 +364,7 @@ module _ (home : ℕ → ℕ) (apart : (i j : ℕ) → home i ≡ home j → i �
       keyed_last = moved_keyed IsOne IsDiscovery network network_ranges q.0 v moves fine runs (issued past ++ q.1.issued) keyed_then
 
       falls_then : LiveFalls live q.0 v None
-      falls_then = moved_falls IsOne IsDiscovery network network_ranges q.0 v moves fine runs (issued past ++ q.1.issued) (issued past ++ q.1.issued) keyed_then
-          keyed_last
+      falls_then = moved q.0 v moves fine runs (issued past ++ q.1.issued) keyed_then keyed_last
 
       homed_then : HomedAt home v → HomedAt home q.0
       homed_then h = moved_homed IsOne IsDiscovery network network_ranges q.0 v moves fine runs (issued past ++ q.1.issued) (issued past ++ q.1.issued)
@@ -376,51 +379,55 @@ module _ (home : ℕ → ℕ) (apart : (i j : ℕ) → home i ≡ home j → i �
     as_before (events.Lose number) loss = refl
     as_before _ loss = absurd loss
 
-  pub line_done_is : (event : Event) → IsEvent event → (IsLoss event → ⊥) → (st : Step) → IsLineStepBy (OldStep network w) IsOne IsDiscovery network w event st
+  pub line_done_is : (event : Event) → IsEvent event
+      → ((q : World × Trace) → step network w event ≡ Ok q → Owed network live w (entry_of event q)) → (IsLoss event → ⊥) → (st : Step)
+      → IsLineStepBy (OldStep network w) IsOne IsDiscovery network w event st
       → Done event st
-  line_done_is event says kept (Ok q) (Known e z old) = λ falls later up_at is_sent honest. same_done event says q (old.same q refl) later up_at is_sent honest
-  line_done_is event says kept (Err fault) (Known e z old) = tt
-  line_done_is event says kept st (Opens begun) = λ falls later up_at is_sent honest.
+  line_done_is event says owed kept (Ok q) (Known e z old) =
+      λ falls later up_at is_sent honest. same_done event says owed q (old.same q refl) later up_at is_sent honest
+  line_done_is event says owed kept (Err fault) (Known e z old) = tt
+  line_done_is event says owed kept st (Opens begun) = λ falls later up_at is_sent honest.
       silent event _ None refl (falls_on network live S home w _ before (same_now S home (live w) before w _ refl refl refl held) falls)
-  line_done_is event says kept st (Anew e v t moves quiet) = λ falls later up_at is_sent honest.
+  line_done_is event says owed kept st (Anew e v t moves quiet) = λ falls later up_at is_sent honest.
       silent event v t.happenings.up quiet.up
       (falls_on network live S home w v before (moved_now S home (live w) before (running_world w) v moves ran_held) falls)
-  line_done_is event says kept st (After e q v t old fine runs moves same_words) = λ falls later up_at is_sent honest.
+  line_done_is event says owed kept st (After e q v t old fine runs moves same_words) = λ falls later up_at is_sent honest.
       let unforged = sym same_words.forged ∙ honest in
-      let was = same_done event says q (old.same q refl) (homed_then event says q v old fine runs moves unforged later)
+      let was = same_done event says owed q (old.same q refl) (homed_then event says owed q v old fine runs moves unforged later)
       (subst (λ o. IfSome o (λ (u : Handed). ComesTo event u.node)) same_words.up up_at) (λ z is. is_sent z (same_words.sent ∙ is)) unforged in
       record {
         custody =
-            falls_on network live S home q.0 v (before ++ option_to_list t.happenings.up) (then_done event says q v t.happenings.up same_words.up moves was)
-            (falls_then event says q v old fine runs moves unforged);
+            falls_on network live S home q.0 v (before ++ option_to_list t.happenings.up)
+            (then_done event says owed q v t.happenings.up same_words.up moves was) (falls_then event says owed q v old fine runs moves unforged);
         handed = λ u is. was.handed u (sym same_words.up ∙ is);
       }
-  line_done_is event says kept st (Unsends e q v t old fine runs moves same_words) = λ falls later up_at is_sent honest.
+  line_done_is event says owed kept st (Unsends e q v t old fine runs moves same_words) = λ falls later up_at is_sent honest.
       let unforged = sym same_words.forged ∙ honest in
-      let was = same_done event says q (old.same q refl) (homed_then event says q v old fine runs moves unforged (record { at = later.at }))
+      let was = same_done event says owed q (old.same q refl) (homed_then event says owed q v old fine runs moves unforged (record { at = later.at }))
       (subst (λ o. IfSome o (λ (u : Handed). ComesTo event u.node)) same_words.up up_at) (λ z is. is_sent z (same_words.sent ∙ is)) unforged in
       let on : Appends w v = appends_both w q.0 v (step_appends network w event (Ok q) old.is kept) (moved_appends IsOne IsDiscovery network q.0 v moves) in
-      let down = falls_then event says q v old fine runs moves unforged in
+      let down = falls_then event says owed q v old fine runs moves unforged in
       record {
         custody = falls_on network live S home q.0 _ (before ++ option_to_list t.happenings.up)
             (unsent_now S home (live q.0) (before ++ option_to_list t.happenings.up) w v _ on c.flights c.sent refl refl refl
-            (then_done event says q v t.happenings.up same_words.up moves was))
-            (record { falls = down.falls; passes = λ place g is. absurd (none_some place is) });
+            (then_done event says owed q v t.happenings.up same_words.up moves was))
+            (record { falls = λ f h. down.falls f (unsent v f h); passes = λ place g is. absurd (none_some place is) });
         handed = λ u is. was.handed u (sym same_words.up ∙ is);
       }
-  line_done_is event says kept st (Unbelieves e number x octets got there known comes is) = λ falls later up_at is_sent honest.
+  line_done_is event says owed kept st (Unbelieves e number x octets got there known comes is) = λ falls later up_at is_sent honest.
       silent event _ None refl (falls_on network live S home w _ before
       (same_now S home (live w) before (world_after network (running_world w) number (stays (accepting network x octets).node (only answers.Blacklisted))) _
       refl refl refl
       (rests_held (only answers.Blacklisted) number x octets there)) falls)
-  line_done_is event says kept st (Chooses number count x psk ne there pair) = λ falls later up_at is_sent honest.
+  line_done_is event says owed kept st (Chooses number count x psk ne there pair) = λ falls later up_at is_sent honest.
       silent event _ None refl (falls_on network live S home w _ before
       (same_now S home (live w) before (world_after network (running_world w) number
       (reaches x (beside_at w number) (Err choices.Halted) (λ y. choose_agent (identity network x psk) y count w.clock))) _ refl refl refl
       (chosen_held number count x psk there)) falls)
 
-  pub line_done : LogsKept w → (event : Event) → IsEvent event → Done event (line_step network w event)
-  line_done logs event says =
+  pub line_done : LogsKept w → (event : Event) → IsEvent event
+      → ((q : World × Trace) → step network w event ≡ Ok q → Owed network live w (entry_of event q)) → Done event (line_step network w event)
+  line_done logs event says owed =
       let made = line_step_same IsOne IsDiscovery network network_ranges w ok s.flights logs (one_speaks w ok s r logs) event says in
-      ⊎_elim (λ (loss : IsLoss event). lost_done event says (line_step network w event) (sym (as_before event says event loss)))
-      (λ (kept : IsLoss event → ⊥). line_done_is event says kept (line_step network w event) made) (is_loss event)
+      ⊎_elim (λ (loss : IsLoss event). lost_done event says owed (line_step network w event) (sym (as_before event says owed event loss)))
+      (λ (kept : IsLoss event → ⊥). line_done_is event says owed kept (line_step network w event) made) (is_loss event)

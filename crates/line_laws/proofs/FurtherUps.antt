@@ -1,5 +1,5 @@
 -- What a run of the network with further reach hands up before it is forged was sent, and nothing is handed up twice, where its traces are right.
-use Rattle.std.proofs.Common.{zero-le, ◌≡◌, ℕ, ◌+◌, ◌<◌, false, List, [], ◌∷◌, ◌++◌, length, Option, Some, None, append-nil, refl, sym, ap, ◌∙◌, subst}
+use Rattle.std.proofs.Common.{zero-le, ◌≡◌, ℕ, ◌+◌, ◌<◌, false, List, [], ◌∷◌, ◌++◌, length, Option, Some, None, append-nil, true, refl, sym, ap, ◌∙◌, subst}
 use Rattle.std.proofs.Common.{arith}
 use Rattle.std.specs.Prelude.{◌&&◌, not, All, AllPairs, IfSome, is_some, slice_get}
 use Rattle.std.specs.Option.{option_to_list}
@@ -14,29 +14,42 @@ use Rattle.line_rules.specs.Runs.{Entry, IsRun, events_of, one_of, sends as send
 use Rattle.line_rules.specs.SafeRuns.{IsNew, WasSent}
 use Rattle.line_rules.specs.Traces.{AreTracedRight, ComesTo, CountsRight, is_broadcast, is_up}
 use Rattle.line_rules.specs.Steps.{is_taken}
-use Rattle.line_rules.specs.Worlds.{World, Sending, start}
+use Rattle.line_rules.specs.Worlds.{World, Issued, Sending, start}
+use Rattle.pan_discovery.specs.Messages.{IsDiscovery}
 use Rattle.line_laws.specs.InCustody.{Custody, FlightIsOf, SentUnder, sent_as}
 use Rattle.line_laws.specs.SealedUnits.{IsFlight}
+use Rattle.line_laws.specs.Keyed.{Keyed}
+use Rattle.line_laws.specs.Lines.{WorldOk}
 use Rattle.line_laws.specs.Live.{live}
+use Rattle.line_laws.specs.Places.{LiveFalls}
 use Rattle.line_laws.specs.Ranges.{NodeRanged}
 use Rattle.line_laws.specs.Tags.{TagRises}
 use Rattle.line_laws.specs.Ups.{EveryDatagramWasSent, UpsAreSentAfter}
 use Rattle.line_laws.proofs.CustodyHomes.{HomedAlong, homed_here}
 use Rattle.line_laws.proofs.CustodyRuns.{After, is_new, none_lists, noted, number_at, slice_middle, was_sent}
-use Rattle.line_laws.proofs.FurtherCustody.{Done, line_done}
+use Rattle.line_laws.proofs.FurtherAddresses.{moved_falls}
+use Rattle.line_laws.proofs.FurtherCustody.{Done, entry_of, line_done}
 use Rattle.line_laws.proofs.FurtherHomes.{falls, reach_homes}
 use Rattle.line_laws.proofs.FurtherOctets.{every_flight}
+use Rattle.line_laws.proofs.FurtherSeals.{IsOne}
+use Rattle.line_laws.proofs.FurtherStepKinds.{Moves}
 use Rattle.line_laws.proofs.FurtherStates.{Sound, sound_on, start_sound}
 use Rattle.line_laws.proofs.IssueRuns.{all_of_one}
 use Rattle.line_laws.proofs.LawRuns.{every_count, every_send, every_tag, every_trace}
 use Rattle.line_laws.proofs.Readings.{network_ranges}
+use Rattle.line_laws.proofs.UpsSent.{owed_at}
 
 none_some : {A : Type 0} (x : A) → None ≡ Some x → ⊥
 none_some x e = cc
 
-one_list : {A : Type 0} (o : Option A) → option_to_list o ≡ one_of o
+pub one_list : {A : Type 0} (o : Option A) → option_to_list o ≡ one_of o
 one_list None = refl
 one_list (Some a) = refl
+
+-- where nodes only do things by themselves, no flight comes to life
+moved_so : (v u : World) → Moves IsOne IsDiscovery network v u → WorldOk v → v.running ≡ true → (given : List Issued) → Keyed v given → Keyed u given
+    → LiveFalls live v u None
+moved_so v u moves fine runs given kv ku = moved_falls IsOne IsDiscovery network network_ranges v u moves fine runs given given kv ku
 
 module _ (home : ℕ → ℕ) (apart : (i j : ℕ) → home i ≡ home j → i ≡ j) (first : home 0 ≡ 0) (sent : List Sending) (rises : AllPairs TagRises sent)
     (some : All (λ (s : Sending). 0 < length s.datagram) sent) where
@@ -48,7 +61,7 @@ module _ (home : ℕ → ℕ) (apart : (i j : ℕ) → home i ≡ home j → i �
   AfterIt w event before v up = After network network_opens_again network_ranges live (λ w f e. e) home apart sent rises some w event before v up
 
   -- the send of an event, by its number
-  sent_under : (w : World) (before : List Entry) (x : Entry) (xs : List Entry) → w.sends ≡ length (sends_of before)
+  pub sent_under : (w : World) (before : List Entry) (x : Entry) (xs : List Entry) → w.sends ≡ length (sends_of before)
       → sent ≡ sends_of before ++ sends_of (x ∷ xs) → (s : Sending) → x.trace.sent ≡ Some s → SentUnder home sent (w.sends + 1) (sent_as home s)
   sent_under w before x xs count same s e =
       let all_sends : sent ≡ sends_of before ++ s ∷ sends_of xs = same ∙ ap (λ (q : Option Sending). sends_of before ++ (one_of q ++ sends_of xs)) e in
@@ -70,10 +83,12 @@ module _ (home : ℕ → ℕ) (apart : (i j : ℕ) → home i ≡ home j → i �
     left : AfterIt w x.event (ups_of before) x.after x.trace.happenings.up
     left =
         let event = All-head IsEvent x.event (events_of xs) says in
-        let done = subst (Done home apart sent rises some w (ups_of before) g.custody o.stands.ok o.stands.speaks o.ranged before o.keyed first homed.0 x.event)
+        let done = subst (Done live (λ w f e. e) home apart sent rises some w (ups_of before) g.custody o.stands.ok o.stands.speaks o.ranged before o.keyed
+        first homed.0 moved_so (λ v f h. h) x.event)
         run.2
-        (line_done home apart sent rises some w (ups_of before) g.custody o.stands.ok o.stands.speaks o.ranged before o.keyed first homed.0 o.stands.logs
-        x.event event)
+        (line_done live (λ w f e. e) home apart sent rises some w (ups_of before) g.custody o.stands.ok o.stands.speaks o.ranged before o.keyed first homed.0
+        moved_so (λ v f h. h) o.stands.logs x.event event
+        (λ q is. owed_at w before (record { ok = o.stands.ok; speaks = o.stands.speaks; ranged = o.ranged; keyed = o.keyed }) (entry_of x.event q) event is))
         in
         done (falls w before o x event run.2 honest) (homed_here home x.after xs (homed.1 honest)) traced.0.up_at (sent_under w before x xs g.count same) honest
 

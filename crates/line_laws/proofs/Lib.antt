@@ -161,6 +161,7 @@ pub mod FurtherCustody
 pub mod FurtherLoops
 pub mod FurtherHomes
 pub mod FurtherUps
+pub mod OpenCustody
 pub mod FurtherCalls
 pub mod FurtherEvents
 pub mod FurtherSenders

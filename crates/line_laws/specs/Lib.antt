@@ -6,6 +6,7 @@ pub mod Ranges
 pub mod Custody
 pub mod Sends
 pub mod Places
+pub mod OpenFlights
 pub mod Laws
 pub mod Tags
 pub mod Ups

@@ -1,4 +1,5 @@
 //! Laws of the runs: each carried by a function that does nothing.
+ghost use Rattle.line_laws.specs.OpenFlights.{EveryRunStaysInOpenCustody};
 ghost use Rattle.line_laws.specs.AdmittedRight.{EveryAdmissionIsRight};
 ghost use Rattle.line_laws.specs.AgreedRight.{EveryAgreementIsSaid};
 ghost use Rattle.line_laws.specs.CheckHistories.{EveryCheckIsRight};
@@ -243,6 +244,13 @@ pub fn every_run_holds()
 #[tactic(auto)]
 pub fn every_run_holds_throughout()
     ensures { EveryRunHoldsThroughout }
+{}
+
+/// In every run of the network, up to its first forged event, over restarts, failed writes and presets: each octet of each datagram that was sent is at one
+/// place at most after each event, where those flights count whose octets no node has accepted as a frame to it alone, live or not.
+#[tactic(auto)]
+pub fn every_run_stays_in_open_custody()
+    ensures { EveryRunStaysInOpenCustody }
 {}
 
 /// In every run of the network, before its first forged event, over restarts and failed writes: what every node holds is in its ranges, and what

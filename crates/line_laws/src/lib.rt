@@ -24,8 +24,9 @@ pub use laws::{
     every_kicked_meter_stays_out, every_log_is_kept, every_mark_rises, every_network_run_is_right,
     every_node_accepts_once, every_nonce_differs, every_restart_ends_routes,
     every_restart_is_answered, every_run_holds, every_run_holds_throughout, every_run_is_loop_free,
-    every_run_is_ranged, every_run_is_safe, every_run_is_sized, every_send_has_octets,
-    every_sender_is_right, every_shut_out_meter_stays_out, every_step_is_taken,
-    every_store_is_readable, every_tag_rises, every_trace_is_right, every_walk_was_taken,
-    network_keeps_ranges, network_opens_what_it_seals, only_issued_keys, the_last_flights_say_all,
+    every_run_is_ranged, every_run_is_safe, every_run_is_sized, every_run_stays_in_open_custody,
+    every_send_has_octets, every_sender_is_right, every_shut_out_meter_stays_out,
+    every_step_is_taken, every_store_is_readable, every_tag_rises, every_trace_is_right,
+    every_walk_was_taken, network_keeps_ranges, network_opens_what_it_seals, only_issued_keys,
+    the_last_flights_say_all,
 };

@@ -11,15 +11,16 @@ use Rattle.mesh_header.specs.declared.unit.Unit.{Unit as MeshUnit}
 use Rattle.node_rules.specs.Ciphers.{network}
 use Rattle.node_rules.specs.Memory.{Memory, Node, StationMemory}
 use Rattle.line_events.specs.declared.happenings.Handed.{Handed}
-use Rattle.line_rules.specs.Runs.{Entry, sends, ups}
+use Rattle.line_rules.specs.Runs.{Entry, one_of, ups}
 use Rattle.line_rules.specs.Worlds.{World, Flight, Sending, flight_at, node_at}
 use Rattle.line_laws.specs.Custody.{below, body_is, content_is, held_is, keeps, load_is, placed_is, weigh}
 use Rattle.line_laws.specs.Invariant.{HoldsAfterEach}
 use Rattle.line_laws.specs.Live.{live}
+use Rattle.line_laws.specs.OpenFlights.{Opening, StayInOpenCustody, is_open, opening}
 use Rattle.line_laws.specs.Places.{IsInCustody, flight_is, handed_is, issued, live_is, node_keeps, places, unit_of}
 use Rattle.line_progress.specs.Lists.{Among, Here, Later}
 use Rattle.line_progress.specs.Stations.{station_at}
-use Rattle.run_laws.specs.OctetPlaces.{AreAtOnePlace, AtNode, Flies, InFlight, InPieces, IsAtPlace, IsGathered, Place, StayAtOnePlaceAfter, Waits, WasHandedUp}
+use Rattle.run_laws.specs.OctetPlaces.{AreAtOnePlace, AtNode, Flies, InFlight, InPieces, IsAtPlace, IsGathered, Place, StayAtOnePlace, Waits, WasHandedUp}
 
 -- # Sums
 
@@ -251,11 +252,13 @@ at_one_place counts w handed c n i some a b x y =
 
 -- # Runs
 
-pub stay_at_one : (all : List Sending) (home : ℕ → ℕ) (before entries : List Entry) → HoldsAfterEach all home before entries
-    → StayAtOnePlaceAfter before entries
-stay_at_one all home before [] holds = tt
-stay_at_one all home before (x ∷ xs) holds = λ honest.
-    let h = holds honest in (
+pub stay_at_one : (all : List Sending) (home : ℕ → ℕ) (opened : List Opening) (before : List Entry) (w : World) (entries : List Entry)
+    → HoldsAfterEach all home before entries → StayInOpenCustody opened before w entries → StayAtOnePlace opened before w entries
+stay_at_one all home opened before w [] holds counted = tt
+stay_at_one all home opened before w (x ∷ xs) holds counted = λ honest.
+    let h = holds honest in
+    let o = counted honest in (
       at_one_place live x.after (ups (before ++ x ∷ [])) h.0.custody.places,
-      stay_at_one all home (before ++ x ∷ []) xs h.1,
+      at_one_place (λ _ f. is_open (one_of (opening w x.event) ++ opened) f) x.after (ups (before ++ x ∷ [])) o.0,
+      stay_at_one all home (one_of (opening w x.event) ++ opened) (before ++ x ∷ []) x.after xs h.1 o.1,
     )

@@ -5,10 +5,11 @@ use Rattle.fragment_buffers.specs.Reassembly.{PlacedPiece, Reassembly}
 use Rattle.node_rules.specs.Ciphers.{network}
 use Rattle.node_rules.specs.Memory.{Body, StationMemory}
 use Rattle.line_events.specs.declared.happenings.Handed.{Handed}
-use Rattle.line_rules.specs.Runs.{Entry, IsLineRun, ups}
-use Rattle.line_rules.specs.Worlds.{World, Flight, flight_at}
+use Rattle.line_rules.specs.Runs.{Entry, IsLineRun, one_of, ups}
+use Rattle.line_rules.specs.Worlds.{World, Flight, flight_at, start}
 use Rattle.line_laws.specs.Custody.{content_is, load_is, placed_is}
 use Rattle.line_laws.specs.Live.{live}
+use Rattle.line_laws.specs.OpenFlights.{Opening, is_open, opening}
 use Rattle.line_laws.specs.Places.{unit_of}
 use Rattle.line_progress.specs.Lists.{Among}
 use Rattle.line_progress.specs.Stations.{station_at}
@@ -40,12 +41,15 @@ AreAtOnePlace counts w handed =
 
 -- # Runs
 
--- So it is after each event before the first forged one, where those flights count that may still come: which the node of their address would still
--- admit, lost or not.
-abbrev pub StayAtOnePlaceAfter : List Entry → List Entry → Type 0
-StayAtOnePlaceAfter before [] = Unit {0}
-StayAtOnePlaceAfter before (x ∷ xs) =
-    x.trace.happenings.forged ≡ false → AreAtOnePlace live x.after (ups (before ++ x ∷ [])) × StayAtOnePlaceAfter (before ++ x ∷ []) xs
+-- So it is after each event before the first forged one, lost flights or not: where those count that may still come, which the node of their address
+-- would still admit; and where those count that are open, since no node has accepted them so far. What was opened is listed, the last first.
+abbrev pub StayAtOnePlace : List Opening → (before : List Entry) → World → List Entry → Type 0
+StayAtOnePlace opened before w [] = Unit {0}
+StayAtOnePlace opened before w (x ∷ xs) =
+    x.trace.happenings.forged ≡ false
+    → AreAtOnePlace live x.after (ups (before ++ x ∷ []))
+    × AreAtOnePlace (λ _ f. is_open (one_of (opening w x.event) ++ opened) f) x.after (ups (before ++ x ∷ []))
+    × StayAtOnePlace (one_of (opening w x.event) ++ opened) (before ++ x ∷ []) x.after xs
 
 abbrev pub EveryOctetIsAtOnePlace : Type 0
-EveryOctetIsAtOnePlace = (entries : List Entry) → IsLineRun network entries → StayAtOnePlaceAfter [] entries
+EveryOctetIsAtOnePlace = (entries : List Entry) → IsLineRun network entries → StayAtOnePlace [] [] start entries

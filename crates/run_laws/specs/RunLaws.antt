@@ -7,14 +7,14 @@ use Rattle.run_laws.specs.BesideSizes.{IsBesideSized}
 use Rattle.run_laws.specs.Choices.{AreChosenRightAfter}
 use Rattle.run_laws.specs.DatagramFates.{HaveFates}
 use Rattle.run_laws.specs.Datagrams.{MoveDatagrams}
-use Rattle.run_laws.specs.OctetPlaces.{StayAtOnePlaceAfter}
+use Rattle.run_laws.specs.OctetPlaces.{StayAtOnePlace}
 
 -- What they say of a run, one by one.
 pub record IsLawful (entries : List Entry) : Type 0 where
   pub chosen : AreChosenRightAfter [] entries
   pub beside : All (λ (x : Entry). IsBesideSized x.after) entries
   pub datagrams : MoveDatagrams start entries
-  pub places : StayAtOnePlaceAfter [] entries
+  pub places : StayAtOnePlace [] [] start entries
   pub fates : NoneForged entries → HaveFates entries (last_world start entries)
 
 -- so it is of every run of the network

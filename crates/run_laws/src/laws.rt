@@ -9,7 +9,8 @@ ghost use Rattle.run_laws.specs.RunLaws.{EveryRunIsLawful};
 use line_laws::{
     every_count_is_right, every_flight_falls, every_flight_is_octets, every_forgery_is_reported,
     every_history_is_kept, every_log_is_kept, every_nonce_differs, every_run_holds,
-    every_run_holds_throughout, every_tag_rises, network_keeps_ranges, the_start_holds,
+    every_run_holds_throughout, every_run_stays_in_open_custody, every_tag_rises,
+    network_keeps_ranges, the_start_holds,
 };
 use line_progress::{
     datagrams_came, deliveries_have_fates, events_keep_bodies, events_keep_flights,
@@ -54,11 +55,13 @@ pub fn every_datagram_is_moved()
 }
 
 /// In every run of the network, before its first forged event, over restarts and failed writes, after each event: no octet of a datagram that was sent is at
-/// two places at once, of those that were handed up, the flights that may still come, what waits for a route, and what is gathered.
+/// two places at once, of those that were handed up, the flights, what waits for a route, and what is gathered. So it is where the flights count that may
+/// still come, and where those count that no node has accepted so far.
 pub fn every_octet_is_at_one_place()
     ensures { EveryOctetIsAtOnePlace }
 {
     every_run_holds_throughout();
+    every_run_stays_in_open_custody();
 }
 
 /// In every run of the network without a forged event, whatever power is lost and whatever octets are injected, after each event: each octet of each
