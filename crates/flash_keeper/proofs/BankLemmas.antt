@@ -134,6 +134,15 @@ ready_is_left live spare n c r one = record {
   beside = inl (r.beside, inr r.mark);
 }
 
+-- and where the spare one is erased, or that was cut short
+pub wiped_is_ready : (live old new : Bank) (n : ℕ) → AreReady live old n → new.torn ≡ false → ((i : ℕ) → new.words i ≡ Some erased) → new.size ≡ old.size
+    → AreReady live new n
+wiped_is_ready live old new n r firm blank size =
+    record { sizes = r.sizes ∙ sym size; number = r.number; mark = r.mark; log = r.log; beside = inr (firm, blank 2) }
+
+pub wiped_is_left : (live old new : Bank) (n : ℕ) (c : Choice) → AreReady live old n → IsDead new → IsOneOf c (upto live.words n) → AreLeft live new n c
+wiped_is_left live old new n c r dead one = record { number = r.number; log = settled_is_left live n c r.log one; beside = inl (dead, inr r.mark) }
+
 -- a program of the first word or of the mark of a bank that is dead or stands for records leaves it so
 pub word_of_left : (old new : Bank) (at n : ℕ) (c : Choice) (ok : Bool) → at < 3 → Programs at 0 ok old new → IsLeft old n c → IsLeft new n c
 word_of_left old new at n c ok less p left = left-same old new n c p.torn p.size (after_head at 0 ok old new less p) left

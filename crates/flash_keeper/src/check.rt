@@ -3,7 +3,7 @@ ghost use Rattle.std.specs.Prelude.{◌≡◌, ◌<◌, ◌^◌};
 ghost use Rattle.flash_keeper.specs.Check.{residue_of, check_of};
 
 /// The modulus of a check: a prime. With it each change of up to four bits of a cell's slot, length, octets and check is seen, each change
-/// within 31 bits that follow one another, and of all others all but one in 4 * 10^9.
+/// within 31 bits of the octets that follow one another, and of others all but one in 4 * 10^9.
 pub const MODULUS: u64 = 4_294_967_197;
 
 // The residue of octets as the digits of a number, after what stands before them.

@@ -194,6 +194,27 @@ impl<B: FlashBank + Drop> FlashKeeper<B> {
         Ok((first, second))
     }
 
+    /// Copies the records to the other bank, and erases the one that was used: then no record that was replaced, and so no key that was given up, is
+    /// left in flash. It costs two erases: call it after a device has left or was given other keys, and not at each put.
+    ///
+    /// After `Failed` it holds the records from before, as an opening of its banks does (`left`); each further put and purge fails.
+    #[tactic(auto, using(crate::proofs::KeeperLemmas::kept_of_ready, crate::proofs::KeeperLemmas::kept_of_left, crate::proofs::KeeperLemmas::nothing_else))]
+    pub fn purge(&mut self) -> Result<(), Failed>
+        ensures same { self.new.store.records ≡ self.old.store.records }
+        ensures faults { self.new.store.faults ≡ self.old.store.faults }
+        ensures known_cut { self.new.store.known_cut ≡ self.old.store.known_cut }
+        ensures listed { self.new.store.listed ≡ self.old.store.listed }
+        ensures left { (self.new.left ≡ self.old.left) ⊎ (self.new.left ≡ self.old.store.records) }
+    {
+        if self.failed {
+            return Err(Failed);
+        }
+        self.failed = true;
+        self.pair.purge()?;
+        self.failed = false;
+        Ok(())
+    }
+
     /// Whether each cell that counts still has its check: an opening looks at that, and no call after it. False tells that bits have changed by
     /// themselves since, so what a get answers may not be what was put: then open the banks again, which answers [`OpenFault::Decayed`].
     /// Nothing in the model of a bank changes by itself, so the contract says no more than that there is no false alarm.

@@ -153,6 +153,19 @@ impl<B: FlashBank + Drop> Pair<B> {
         Ok(())
     }
 
+    /// Copies the records to the spare bank, and erases the one that was the live one: then no record that was replaced is left in either.
+    pub fn purge(&mut self) -> Result<(), Failed>
+        requires { AreReady (B.bank self.old.live) (B.bank self.old.spare) self.old.next }
+        ensures ready { OnOk result (AreReady (B.bank self.new.live) (B.bank self.new.spare) self.new.next) }
+        ensures blank { OnOk result (IsBlank (B.bank self.new.spare)) }
+        ensures records { upto (B.bank self.new.live).words self.new.next ≡ upto (B.bank self.old.live).words self.old.next }
+        ensures left { OnErr result (AreLeft (B.bank self.new.live) (B.bank self.new.spare) self.new.next (choice_of (B.bank self.new.live) self.new.next)) }
+        ensures found { OnErr result (upto_fence (B.bank self.new.live).words self.new.next ≡ upto (B.bank self.old.live).words self.old.next) }
+    {
+        self.rewrite()?;
+        wipe(&mut self.spare)
+    }
+
     // Makes room for one more cell: where there is none, it copies the records to the spare bank.
     fn make_room(&mut self) -> Result<(), Failed>
         requires { AreReady (B.bank self.old.live) (B.bank self.old.spare) self.old.next }
