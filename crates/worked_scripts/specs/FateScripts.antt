@@ -1,13 +1,15 @@
 -- What becomes of a datagram that is sent, of a unit that is accepted, of a body that waits and of a piece that is held: each fate is met.
 use Rattle.std.specs.Prelude.{◌≡◌, ℕ, ◌+◌, false, List, [], ◌∷◌, ◌++◌, length, map, replicate, Option, Some, None}
 use Rattle.std.specs.List.{range_with_len}
-use Rattle.std.specs.Option.{option_map}
+use Rattle.std.specs.Option.{option_map, option_map_or}
 use Rattle.mesh_header.specs.declared.unit.Unit.{Unit as MeshUnit}
 use Rattle.line_events.specs.declared.event.Answer.{Answer}
 use Rattle.line_events.specs.declared.event.Answer.TheVariants as answers
 use Rattle.line_events.specs.declared.event.Event.{Event}
-use Rattle.line_events.specs.declared.event.Event.TheVariants.{Near, Counter, Send, Deliver, Inject, Cut, Tick, Leave}
-use Rattle.worked_scripts.specs.Scripts.{three_meters, sealed, whole, part_of, answers_to, counts_of, memory_at}
+use Rattle.line_events.specs.declared.event.Event.TheVariants.{Near, Counter, Send, Deliver, Inject, Lose, Cut, Tick, Leave}
+use Rattle.line_rules.specs.Runs.{run}
+use Rattle.line_rules.specs.Worlds.{Flight, flight_at, start}
+use Rattle.worked_scripts.specs.Scripts.{plain, world_behind, three_meters, sealed, whole, part_of, answers_to, counts_of, memory_at}
 
 -- # A datagram that is to be sent
 
@@ -56,6 +58,23 @@ AUnitHasEachFate =
     × (answer_behind (Counter 1 4294967295 ∷ []) (comes_to 9 (whole 14 3 2 (0xaa ∷ []))) ≡ answers.CounterSpent ∷ [])
     × (answer_behind (map (λ k. first_piece (k + 1) k) (range_with_len 0 8)) (first_piece 9 8) ≡ answers.BufferFull ∷ [])
     × (answer_behind (Cut 1 2 false ∷ []) (comes_to 9 (whole 14 3 2 (0xaa ∷ []))) ≡ answers.Store ∷ [])
+
+-- # A flight that is lost
+
+-- meter 1 has sent a datagram to meter 2, in one flight
+abbrev pub it_flies : List Event
+it_flies = one_route ++ (Send 1 2 (0xaa ∷ []) ∷ [])
+
+-- the octets of the first flight
+abbrev pub first_octets : List Event → List ℕ
+first_octets events = option_map_or (λ (f : Flight). f.octets) (flight_at (world_behind start (run plain start events)) 1) []
+
+-- A flight that is lost is no end of what it carries: who has its octets can still inject them, they are handed up, and nothing is forged.
+unfoldable pub ALostFlightComes : Type 0
+ALostFlightComes =
+    (answers_to it_flies (Lose 1 ∷ Inject 2 1 (first_octets it_flies) ∷ []) ≡ answers.Lost ∷ answers.Up ∷ [])
+    × (counts_of (it_flies ++ (Lose 1 ∷ Inject 2 1 (first_octets it_flies) ∷ []))
+    ≡ record { events = 11; flights = 1; sends = 1; ups = 1; forged = 0 })
 
 -- # A body that waits
 

@@ -1,5 +1,5 @@
 //! What becomes of datagrams that are sent, of units that are accepted, of bodies that wait and of pieces that are held: each fate is met.
-ghost use Rattle.worked_scripts.specs.FateScripts.{ASendHasEachFate, AUnitHasEachFate, ABodyHasEachFate, APieceHasEachFate};
+ghost use Rattle.worked_scripts.specs.FateScripts.{ASendHasEachFate, AUnitHasEachFate, ALostFlightComes, ABodyHasEachFate, APieceHasEachFate};
 
 /// A datagram goes out in one flight, or as two pieces in two; it waits, and a request flies; or it is refused.
 #[tactic(auto, using(crate::proofs::FateScripts::a_send_has_each_fate))]
@@ -12,6 +12,12 @@ pub fn a_send_has_each_fate()
 #[tactic(auto, using(crate::proofs::FateScripts::a_unit_has_each_fate))]
 pub fn a_unit_has_each_fate()
     ensures { AUnitHasEachFate }
+{}
+
+/// A flight that is lost is no end of what it carries: its octets can still be injected, and are then handed up, with nothing forged.
+#[tactic(auto, using(crate::proofs::FateScripts::a_lost_flight_comes))]
+pub fn a_lost_flight_comes()
+    ensures { ALostFlightComes }
 {}
 
 /// A body waits on where another frame comes, and for 29 seconds; it leaves where its route is found; it ends after 30 seconds, and where the

@@ -31,6 +31,7 @@ pub use call_scripts::halted_nodes_do_nothing;
 pub use call_scripts::sixty_four_are_near;
 pub use call_scripts::the_book_has_room;
 pub use fate_scripts::a_body_has_each_fate;
+pub use fate_scripts::a_lost_flight_comes;
 pub use fate_scripts::a_piece_has_each_fate;
 pub use fate_scripts::a_send_has_each_fate;
 pub use fate_scripts::a_unit_has_each_fate;
