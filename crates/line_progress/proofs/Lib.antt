@@ -34,3 +34,4 @@ pub mod EventFates
 pub mod FlightsKept
 pub mod PiecesComing
 pub mod PiecesArriving
+pub mod BroadcastFates

@@ -9,3 +9,4 @@ pub mod UnitFates
 pub mod Ups
 pub mod Held
 pub mod EventFates
+pub mod BroadcastFates

@@ -1,6 +1,7 @@
 //! Laws of progress: each carried by a function that does nothing.
 ghost use Rattle.line_progress.specs.Arrival.{DatagramsArrive};
 ghost use Rattle.line_progress.specs.BodyFates.{BodiesHaveFates};
+ghost use Rattle.line_progress.specs.BroadcastFates.{BroadcastsGoFurther};
 ghost use Rattle.line_progress.specs.EventFates.{EventsKeepBodies, EventsKeepFlights, EventsKeepPieces, PiecesArrive};
 ghost use Rattle.line_progress.specs.Held.{EventsKeepHeld, EventsLeaveOthers};
 ghost use Rattle.line_progress.specs.PieceFates.{HearingKeepsPieces, PiecesComeIn, PiecesHaveFates};
@@ -115,4 +116,9 @@ pub fn events_keep_flights()
 /// makes whole, or has no room for it, or halts the node.
 pub fn pieces_arrive()
     ensures { PiecesArrive }
+{}
+
+/// A broadcast that a node hands up goes on to all with one hop less, in the one frame that it then sends, while it has a hop more.
+pub fn broadcasts_go_further()
+    ensures { BroadcastsGoFurther }
 {}
