@@ -3,7 +3,7 @@ use Rattle.std.proofs.Common.{◌≡◌, ◌⊎◌, inl, inr, ℕ, ◌+◌, ◌-
 use Rattle.std.proofs.Common.{sym, subst, ap, ◌∙◌, arith}
 use Rattle.plc_base.specs.Keeper.{Records}
 use Rattle.flash_keeper.specs.Flash.{Bank, Programs, Erases, erased, head_word}
-use Rattle.flash_keeper.specs.Log.{place, mark, fence, room, upto, IsCertain, IsSettled, IsLeft, IsFoundBlank, IsClosable, IsShort, Choice}
+use Rattle.flash_keeper.specs.Log.{place, mark, close, fence, room, upto, IsCertain, IsSettled, IsLeft, IsFoundBlank, IsClosable, IsShort, Choice}
 use Rattle.flash_keeper.specs.Log.{IsOneOf, SameOutside, IsOpen, IsBlankFrom, IsDecided, AreDecided}
 use Rattle.flash_keeper.specs.Banks.{IsHeaded, IsDead, IsNumbered, IsStanding, IsBeside, AreLeft, IsStore, AreReady, IsSeen, choice_of}
 use Rattle.flash_keeper.specs.Banks.{IsDecayed, MayOpen, IsCause}
@@ -295,6 +295,14 @@ pub torn_before : (old new : Bank) (n at : ℕ) (c : Choice) (ok : Bool) → 0 <
     → (ok ≡ false → new ≡ old) → (ok ≡ false → old.words (mark (at - 1)) ≡ Some 0 → ⊥) → IsShort new n at c
 torn_before old new n at c ok more left found is torn unmarked =
     subst (λ (b : Bank). IsShort b n at c) (sym (torn is)) (short old n at c more left found (unmarked is))
+
+-- cells stay decided where their words do
+pub decided-same : (old new : Bank) (n : ℕ) → ((i : ℕ) → 3 ≤ i → new.words i ≡ old.words i) → AreDecided old.words n → AreDecided new.words n
+decided-same old new n same decided = (one n decided.0, λ k e. one k (decided.1 k e))
+  where
+    one : (k : ℕ) → IsDecided old.words k → IsDecided new.words k
+    one k (inl e) = inl (same (close k) (omega arith) ∙ e)
+    one k (inr e) = inr (same (fence k) (omega arith) ∙ e)
 
 -- a log of which the last two cells are decided is not left torn
 pub never_undecided : (bank : Bank) (n at : ℕ) (ok : Bool) → 0 < at → IsFoundBlank bank n at → ok ≡ false

@@ -277,6 +277,8 @@ impl<B: FlashBank + Drop> Pair<B> {
             → AreLeft (B.bank self.new.live) (B.bank self.new.spare) n c }
         ensures noted { (B.bank self.old.spare).torn ≡ false → (B.bank self.old.spare).words 1 ≡ Some 0 → self.new ≡ self.old }
         ensures once { OnOk result ((self.new ≡ self.old) ⊎ ((B.bank self.new.spare).words 1 ≡ Some 0)) }
+        ensures cells { (i : ℕ) → 3 ≤ i → (B.bank self.new.live).words i ≡ (B.bank self.old.live).words i }
+        ensures others { (i : ℕ) → 2 ≤ i → (B.bank self.new.spare).words i ≡ (B.bank self.old.spare).words i }
         ensures live_size { (B.bank self.new.live).size ≡ (B.bank self.old.live).size }
         ensures spare_size { (B.bank self.new.spare).size ≡ (B.bank self.old.spare).size }
         ensures failed { OnErr result ((B.has_failed self.new.live ≡ true) ⊎ (B.has_failed self.new.spare ≡ true)) }
@@ -297,6 +299,8 @@ impl<B: FlashBank + Drop> Pair<B> {
         ensures ready { OnOk result (AreReady (B.bank self.new.live) (B.bank self.new.spare) self.new.next) }
         ensures records { OnOk result ((n : ℕ) (c : Choice) → AreLeft (B.bank self.old.live) (B.bank self.old.spare) n c
             → IsOneOf c (upto (B.bank self.new.live).words self.new.next)) }
+        ensures in_place { (n : ℕ) (c : Choice) → AreLeft (B.bank self.old.live) (B.bank self.old.spare) n c → AreDecided (B.bank self.old.live).words n
+            → (i : ℕ) → 2 ≤ i → (B.bank self.new.spare).words i ≡ (B.bank self.old.spare).words i }
         ensures left { OnErr result ((n : ℕ) (c : Choice) → AreLeft (B.bank self.old.live) (B.bank self.old.spare) n c
             → IsStore (B.bank self.new.live) (B.bank self.new.spare) c) }
         ensures failed { OnErr result ((B.has_failed self.new.live ≡ true) ⊎ (B.has_failed self.new.spare ≡ true)) }

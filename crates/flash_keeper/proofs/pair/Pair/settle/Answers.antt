@@ -1,5 +1,7 @@
-use Rattle.std.proofs.Common.{inl}
+use Rattle.std.proofs.Common.{◌∙◌, inl, ap}
+use Rattle.flash_keeper.specs.Flash.{Bank}
 use Rattle.flash_keeper.proofs.Outcomes.{on_err, one_ok, one_err}
+use Rattle.flash_keeper.proofs.BankLemmas.{decided-same}
 use Rattle.flash_keeper.proofs.pair.Pair.settle.Goals as goal
 
 pub returns-in_err-part-clause-left : goal.returns-in_err-part-clause-left
@@ -17,3 +19,13 @@ returns-clause-records g c = one_ok c.finish.result (λ f n choice left. f choic
 
 pub returns-clause-left : goal.returns-clause-left
 returns-clause-left g c = one_err c.finish.result (λ f n choice left. f choice n (c.in_ok-part.ensures.left n choice left).log) c.finish.ensures.left
+
+pub returns-in_err-part-clause-in_place : goal.returns-in_err-part-clause-in_place
+returns-in_err-part-clause-in_place g c = λ n choice left decided i two. c.in_err-part.ensures.others i two
+
+pub returns-clause-in_place : goal.returns-clause-in_place
+returns-clause-in_place g c = λ n choice left decided i two.
+    let was = g.B.FlashBank.bank c.args.self.now.live in
+    let live = g.B.FlashBank.bank c.part.new.self.live in
+    ap (λ (b : Bank). b.words i) (c.finish.ensures.in_place choice n (c.in_ok-part.ensures.left n choice left).log
+    (decided-same was live n c.in_ok-part.ensures.cells decided)) ∙ c.in_ok-part.ensures.others i two
