@@ -108,9 +108,6 @@ impl Driver {
         let Ok(got) = self.meter.station().accept(frame, &mut self.payload) else {
             return Err(self.trouble());
         };
-        if self.meter.station().halted() {
-            return Err(Trouble::Halted);
-        }
         match self.meter.hear(got, cost, 0, now, &mut self.datagram, &mut self.out) {
             Ok(MeterHeard::Station(Heard::Up { from, octets, .. })) => modem.take(from, octets.octets()),
             Ok(_) => {}
