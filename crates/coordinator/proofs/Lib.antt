@@ -21,3 +21,4 @@ pub mod HearingRules
 pub mod Rereading
 pub mod Beginnings
 pub mod OtherWords
+pub mod ReceivedFrames

@@ -7,8 +7,8 @@
 //!   is given. `give_random` takes in a random value, of which each session that is opened takes one; 8 are held.
 //! - `allow` lets a meter join with its pair key, and answers its address; `depot` joins one in the workshop, and answers its
 //!   grant.
-//! - `station` lends the station, whose `accept` takes each frame; `hear` then answers a meter's joining message, and hands on
-//!   what the station makes of all else (`CoordinatorHeard`). `send` and its like are the station's too.
+//! - `receive` takes each frame that comes: its station accepts it, and `hear` answers a meter's joining message, and hands on
+//!   what the station makes of all else (`CoordinatorHeard`). `station` lends the station, whose calls `send` and its like are.
 //! - `challenge` opens a session with a meter that is reached over the mesh. `rekey` keeps a key for the grants from then on,
 //!   `activate` orders a meter to seal with it, and `activate_self` does so at the coordinator. `kick` shuts a meter out.
 //! - `tick` ends what is old, sessions after `SESSION_TIME`. `eui`, `address`, `address_of`, `has_session` and `sessions` look at it;
@@ -48,6 +48,7 @@ mod mesh_commands;
 mod opening;
 mod orders;
 mod packets;
+mod receiving;
 mod sessions;
 
 pub use coordinator::Coordinator;

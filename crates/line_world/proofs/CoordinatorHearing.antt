@@ -68,9 +68,10 @@ runs_too x t got h =
 -- the coordinator that accepted a frame may hear it
 pub may_hear : (x : CoordinatorState) (s t : State StationMemory) (a : Option Arrived) (r : Result Accepted FrameRefusal) (out : Out)
     → IfNone s.memory ((r ≡ Err Halted) × (t ≡ s)) → IfSome s.memory (λ l. Carries s (accept l s.eui a) r out t)
-    → IfSome t.memory (λ l. WaitingFits l) → IfOk r (λ got. MayHear (of_coordinator (with_its t x)) got)
-may_hear x s t a (Ok got) out halted carries waits = runs_too x t got (meter_may_hear (meter_with s) s t a (Ok got) out halted carries waits)
-may_hear x s t a (Err reason) out halted carries waits = tt
+    → IfOk r (λ _. IsSome t.memory) → IfSome t.memory (λ l. WaitingFits l) → IfOk r (λ got. MayHear (of_coordinator (with_its t x)) got)
+may_hear x s t a (Ok got) out halted carries running waits =
+    runs_too x t got (meter_may_hear (meter_with s) s t a (Ok got) out halted carries running waits)
+may_hear x s t a (Err reason) out halted carries running waits = tt
 
 module _ (x y : CoordinatorState) (got : Accepted) (cost note now : ℕ) (r : Result CoordinatorHeard Dropped) (out : Out) (sound : IsSoundCoordinator x)
     (may : MayHear (of_coordinator x) got) where

@@ -1,14 +1,12 @@
 -- What a call makes a meter do, and how it ends: the rules of node_rules, carried out.
-use Rattle.std.specs.Prelude.{◌≡◌, ℕ, ◌++◌, nat_lt, if◌then◌else◌, Bool, true, false, List, [], length, Option, Some, None, Result, Ok, Err, IfSome}
+use Rattle.std.specs.Prelude.{◌≡◌, ℕ, ◌++◌, nat_lt, if◌then◌else◌, Bool, true, false, List, [], length, Option, None, Result, Ok, Err, IfSome}
 use Rattle.std.specs.Option.{option_map, option_and_then}
 use Rattle.byteorder.specs.Endian.{big_bytes}
 use Rattle.plc_base.specs.declared.out_frame.Out.{Out}
-use Rattle.node_rules.specs.Accepted.{Accepted}
 use Rattle.node_rules.specs.declared.heard.MeterHeard.{MeterHeard}
 use Rattle.node_rules.specs.declared.heard.MeterHeard.TheVariants.{Station, Took}
 use Rattle.node_rules.specs.declared.heard.Heard.TheVariants.{Up}
-use Rattle.node_rules.specs.declared.refusal.Dropped.{Dropped}
-use Rattle.node_rules.specs.declared.refusal.FrameRefusal.{FrameRefusal}
+use Rattle.node_rules.specs.declared.refusal.Unheard.{Unheard}
 use Rattle.node_rules.specs.Ciphers.{network}
 use Rattle.node_rules.specs.Frames.{arrived}
 use Rattle.node_rules.specs.Memory.{StationMemory, Memory, address_of}
@@ -18,6 +16,8 @@ use Rattle.node_rules.specs.Accepting.{accept}
 use Rattle.node_rules.specs.MemoryDrafts.{give_random}
 use Rattle.node_rules.specs.Calls as calls
 use Rattle.node_rules.specs.Meters as meters
+use Rattle.node_rules.specs.NodeSteps.{of_station}
+use Rattle.node_rules.specs.Receives.{Receives}
 use Rattle.meter_node.specs.MeterStates.{MeterState, node_of, identity_of}
 use Rattle.host_calls.specs.declared.answers.Given.{Given}
 use Rattle.host_calls.specs.declared.calls.Call.{Call}
@@ -26,7 +26,7 @@ use Rattle.host_calls.specs.declared.status.Status.{Status}
 use Rattle.host_calls.specs.declared.status.Status.TheVariants.{Done, Refused}
 use Rattle.host_calls.specs.Answers.{none_given}
 use Rattle.meter_host.specs.Refusals.{ring_number, preset_number, random_number, join_number, leave_number, send_number}
-use Rattle.meter_host.specs.Refusals.{frame_number, dropped_number}
+use Rattle.meter_host.specs.Refusals.{unheard_number}
 
 -- how a call of the meter ended, by its answer
 abbrev pub status_of : {T E : Type 0} → (E → ℕ) → Result T E → Status
@@ -52,44 +52,28 @@ pub record StationDid {T E : Type 0} (number : E → ℕ) (rule : StationMemory 
 -- # A frame that came
 
 -- what is handed up: the sender, the note and the datagram, which has 1,280 octets at most
-abbrev pub up_of : Result MeterHeard Dropped → List ℕ
+abbrev pub up_of : Result MeterHeard Unheard → List ℕ
 up_of (Ok (Station (Up from note octets))) = if nat_lt 1280 (length octets) then [] else (big_bytes 2 from ++ big_bytes 4 note) ++ octets
 up_of (Ok heard) = []
 up_of (Err reason) = []
 
 -- whether the meter has joined, and the short address that it has then
-abbrev pub is_joined_by : Result MeterHeard Dropped → Bool
+abbrev pub is_joined_by : Result MeterHeard Unheard → Bool
 is_joined_by (Ok (Took agreed)) = true
 is_joined_by answer = false
 
-abbrev pub joined_by : Result MeterHeard Dropped → MeterState → Option ℕ
+abbrev pub joined_by : Result MeterHeard Unheard → MeterState → Option ℕ
 joined_by answer m = if is_joined_by answer then option_and_then address_of m.station.memory else None
 
--- A frame that was accepted is heard.
-pub record HeardAs (got : Accepted) (cost note now : ℕ) (old : MeterState) (status : Status) (given : Given)
-    (new : MeterState) : Type 0 where
-  pub answer : Result MeterHeard Dropped
-  pub ended : status ≡ status_of dropped_number answer
-  pub carries : IfSome (node_of old).memory
-      (λ m. Carries (node_of old) (meters.hear_meter (identity_of old) m got cost note now) answer given.out (node_of new))
+-- A frame is accepted or refused, and one that was accepted is heard.
+pub record Hears (frame : List ℕ) (cost note now : ℕ) (old : MeterState) (status : Status) (given : Given) (new : MeterState) : Type 0 where
+  pub answer : Result MeterHeard Unheard
+  pub ended : status ≡ status_of unheard_number answer
+  pub received : IfSome (node_of old).memory (λ m. Receives (of_station m (accept m.station old.station.eui (arrived network frame)))
+      (λ got k. meters.hear_meter (identity_of old) k got cost note now) (node_of old) answer given.out (node_of new))
   pub same_psk : new.psk ≡ old.psk
   pub joined : given.joined ≡ joined_by answer new
   pub handed_up : given.up ≡ up_of answer
-
--- what comes after a frame was accepted, or not: it is heard, unless its mark was not stored
-abbrev pub Follows : Result Accepted FrameRefusal → Option StationMemory → (cost note now : ℕ) → MeterState → Status → Given → MeterState → Type 0
-Follows (Err reason) memory cost note now old status given new = (status ≡ Refused (frame_number reason)) × (given ≡ none_given) × (new ≡ old)
-Follows (Ok got) None cost note now old status given new = (given ≡ none_given) × (new ≡ old)
-Follows (Ok got) (Some l) cost note now old status given new = HeardAs got cost note now old status given new
-
--- A frame is accepted or refused, and then heard.
-pub record Hears (frame : List ℕ) (cost note now : ℕ) (old : MeterState) (status : Status) (given : Given) (new : MeterState) : Type 0 where
-  pub answer : Result Accepted FrameRefusal
-  pub mid : MeterState
-  pub accepts : IfSome old.station.memory
-      (λ l. Carries old.station (accept l old.station.eui (arrived network frame)) answer nothing mid.station)
-  pub beside : mid ≡ record old { station = mid.station }
-  pub follows : Follows answer mid.station.memory cost note now mid status given new
 
 -- # Each call
 

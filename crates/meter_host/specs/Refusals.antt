@@ -18,6 +18,8 @@ use Rattle.node_rules.specs.declared.refusal.FrameRefusal.TheVariants as frames
 use Rattle.node_rules.specs.declared.refusal.Dropped.{Dropped}
 use Rattle.node_rules.specs.declared.refusal.Dropped.TheVariants as droppeds
 use Rattle.node_rules.specs.declared.refusal.Halted.{Halted}
+use Rattle.node_rules.specs.declared.refusal.Unheard.{Unheard}
+use Rattle.node_rules.specs.declared.refusal.Unheard.TheVariants as unheard
 
 abbrev pub ring_number : RingFault → ℕ
 ring_number rings.NotHeld = 1
@@ -82,6 +84,12 @@ dropped_number droppeds.BufferFull = 25
 dropped_number droppeds.SeqSpent = 26
 dropped_number droppeds.CounterSpent = 27
 dropped_number droppeds.Store = 28
+
+abbrev pub unheard_number : Unheard → ℕ
+unheard_number unheard.Halted = 1
+unheard_number unheard.Store = 8
+unheard_number (unheard.Refused reason) = frame_number reason
+unheard_number (unheard.Dropped reason) = dropped_number reason
 
 abbrev pub halted_number : Halted → ℕ
 halted_number h = 1

@@ -1,20 +1,17 @@
 //! A frame that came.
-ghost use Rattle.std.specs.Prelude.{◌≡◌, IfSome, IsSome};
-ghost use Rattle.meter_node.specs.Hearing.{CameUp};
-ghost use Rattle.host_calls.specs.Answers.{none_given};
-ghost use Rattle.meter_host.specs.Making.{up_of, is_joined_by, HeardAs, Hears};
+ghost use Rattle.std.specs.Prelude.{◌≡◌};
+ghost use Rattle.meter_host.specs.Making.{up_of, is_joined_by, joined_by, Hears};
 
-use crate::hosting::{Buffers, Host};
+use crate::hosting::Host;
 use crate::making::ended;
-use crate::refusals::Refusal;
 use host_calls::{Given, Status};
 use host_items::ItemOctets;
-use node_rules::{Dropped, Heard, MeterHeard};
-use plc_base::{DatagramBuf, LONGEST_DATAGRAM, LinkCost};
-use plc_station::Accepted;
+use node_rules::{Came, Heard, MeterHeard, Unheard};
+use plc_base::{LONGEST_DATAGRAM, LinkCost, Short};
+use plc_station::Buffers;
 
 // Notes what is handed up of a frame: the sender, the note and the datagram, which has 1,280 octets at most.
-fn hand_up(heard: &Result<MeterHeard<'_>, Dropped>, up: &mut ItemOctets)
+fn hand_up(heard: &Result<MeterHeard<'_>, Unheard>, up: &mut ItemOctets)
     ensures { up.new ≡ up_of heard.now }
 {
     up.clear();
@@ -31,38 +28,24 @@ fn hand_up(heard: &Result<MeterHeard<'_>, Dropped>, up: &mut ItemOctets)
 }
 
 // Whether the meter has joined by a frame.
-fn has_joined(heard: &Result<MeterHeard<'_>, Dropped>) -> bool
+fn has_joined(heard: &Result<MeterHeard<'_>, Unheard>) -> bool
     ensures { result ≡ is_joined_by heard.now }
 {
     matches!(heard, Ok(MeterHeard::Took(_)))
 }
 
 impl Host {
-    // Hears a frame that was accepted.
-    fn hear_accepted<'a>(
-        &mut self,
-        got: Accepted<'a>,
-        cost: LinkCost,
-        note: u32,
-        now: u64,
-        datagram: &'a mut DatagramBuf,
-        given: &mut Given,
-    ) -> Status
-        requires came { IfSome self.old.station.memory (CameUp got.path) }
-        requires running { IsSome self.old.station.memory }
-        ensures { HeardAs got.entry cost note now self.old result given.new self.new }
+    // The short address of the meter, where it has joined by a frame.
+    fn joined_by(&self, heard: &Result<MeterHeard<'_>, Unheard>) -> Option<Short>
+        ensures { result ≡ joined_by heard.now self.now }
     {
-        let heard = self
-            .meter
-            .hear(got, cost, note, now, datagram, &mut given.out);
-        hand_up(&heard, &mut given.up);
-        let joined = has_joined(&heard);
-        let status = ended(&heard);
-        given.joined = if joined { self.meter.address() } else { None };
-        status
+        if has_joined(heard) {
+            return self.meter.address();
+        }
+        None
     }
 
-    /// Accepts a frame, and hears it unless its mark was not stored.
+    /// Takes a frame that came: accepts it, and hears it.
     pub fn hear(
         &mut self,
         frame: &[u8],
@@ -72,16 +55,16 @@ impl Host {
         buffers: &mut Buffers,
         given: &mut Given,
     ) -> Status
-        requires none { given.old ≡ none_given }
         ensures { Hears frame.now cost note now self.old result given.new self.new }
     {
-        let got = match self.meter.station().accept(frame, &mut buffers.payload) {
-            Ok(got) => got,
-            Err(reason) => return Status::Refused(reason.number()),
+        let came = Came {
+            cost,
+            note,
+            time: now,
         };
-        if self.halted() {
-            return Status::Halted;
-        }
-        self.hear_accepted(got, cost, note, now, &mut buffers.datagram, given)
+        let heard = self.meter.receive(frame, came, buffers, &mut given.out);
+        hand_up(&heard, &mut given.up);
+        given.joined = self.joined_by(&heard);
+        ended(&heard)
     }
 }

@@ -14,27 +14,10 @@ ghost use Rattle.meter_host.specs.Calling.{Called, Answers, puts_in, NotOpened};
 use host_calls::{Given, Status, read_call, write_answer};
 use meter_node::Meter;
 use outbox_keeper::OutboxKeeper;
-use plc_base::{DatagramBuf, Eui, Failed, FrameBuf, Key, Sink};
-use plc_station::OpenFault;
+use plc_base::{Eui, Failed, Key, Sink};
+use plc_station::{Buffers, OpenFault};
 use std::alloc::Global;
 use std::marker::Model;
-
-/// What a meter is lent to hear a frame.
-#[derive(Drop)]
-pub struct Buffers {
-    pub payload: FrameBuf,
-    pub datagram: DatagramBuf,
-}
-
-impl Buffers {
-    /// Nothing in any of them.
-    pub fn new() -> Buffers {
-        Buffers {
-            payload: FrameBuf::new(),
-            datagram: DatagramBuf::new(),
-        }
-    }
-}
 
 /// A meter over a keeper that lists its puts. A contract sees the meter.
 #[derive(Drop)]

@@ -11,10 +11,11 @@ ghost use Rattle.host_calls.specs.declared.status.Status.TheVariants.{Done};
 ghost use Rattle.meter_host.specs.Making.{status_of, NodeDid, StationDid, Made};
 ghost use Rattle.meter_host.specs.Refusals.{ring_number, preset_number, random_number, join_number, leave_number, send_number};
 
-use crate::hosting::{Buffers, Host};
+use crate::hosting::Host;
 use crate::refusals::Refusal;
 use host_calls::{Call, Given, Status};
 use plc_base::{Grant, LinkCost, Rand, Short};
+use plc_station::Buffers;
 
 /// How a call of the meter ended, by its answer.
 pub fn ended<T, E: Refusal>(answer: &Result<T, E>) -> Status

@@ -1,11 +1,12 @@
 //! Which refusal of a call it was, as a number.
 ghost use Rattle.std.specs.Prelude.{◌≡◌, ℕ};
 ghost use Rattle.meter_host.specs.Refusals.{ring_number, preset_number, random_number, join_number, leave_number, send_number};
-ghost use Rattle.meter_host.specs.Refusals.{frame_number, dropped_number, halted_number};
+ghost use Rattle.meter_host.specs.Refusals.{frame_number, dropped_number, unheard_number, halted_number};
 
 use group_keys::RingFault;
 use node_rules::{
-    Dropped, FrameRefusal, Halted, JoinRefusal, LeaveRefusal, PresetFault, RandomFault, SendRefusal,
+    Dropped, FrameRefusal, Halted, JoinRefusal, LeaveRefusal, PresetFault, RandomFault,
+    SendRefusal, Unheard,
 };
 
 /// Why a call was refused. The refusals of a call are numbered from 1, in the order in which they are declared; what drops a frame that was accepted
@@ -135,6 +136,19 @@ impl Refusal for Dropped {
             Dropped::SeqSpent => 26,
             Dropped::CounterSpent => 27,
             Dropped::Store => 28,
+        }
+    }
+}
+
+impl Refusal for Unheard {
+    ghost number = { unheard_number };
+
+    fn number(&self) -> u8 {
+        match self {
+            Unheard::Halted => 1,
+            Unheard::Store => 8,
+            Unheard::Refused(reason) => reason.number(),
+            Unheard::Dropped(reason) => reason.number(),
         }
     }
 }

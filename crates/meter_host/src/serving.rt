@@ -4,11 +4,12 @@ ghost use Rattle.plc_base.specs.Streams.{SourceFaults, SourceRose, SinkRose};
 ghost use Rattle.meter_host.specs.Serving.{outcome_number, outcome_of, no_records, Loads, Runs, IsTaken, Opens, NextIs, LoadsAll, Says, Serves};
 ghost use Rattle.host_calls.specs.Answers.{status_text};
 
-use crate::hosting::{Buffers, Host};
+use crate::hosting::Host;
 use crate::loading::Loading;
 use host_calls::{Given, Status, write_status};
 use host_items::{ItemFault, ItemOctets, read_item};
 use plc_base::{Eui, Key, Sink, Source, octets_at};
+use plc_station::Buffers;
 use std::alloc::Global;
 
 /// Why the program ends, with its number.

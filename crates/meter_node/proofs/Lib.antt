@@ -6,3 +6,4 @@ pub mod HearingRules
 pub mod ChallengeSteps
 pub mod DispatchRules
 pub mod AcceptingRules
+pub mod ReceivedFrames

@@ -6,8 +6,8 @@
 //! - `open` reads the store through a `Keeper`, with the EUI-64 and the pair key that the caller gives. `give_random` takes in a random
 //!   value, of which each session takes one. `provision` installs a grant in the workshop, without a joining.
 //! - `join` opens a session and sends JOIN to an agent: the coordinator, or a joined neighbour.
-//! - `station` lends the station, whose `accept` takes each frame; `hear` then takes a joining message or carries it on, and hands on
-//!   what the station makes of all else (`MeterHeard`). `send` and its like are the station's too.
+//! - `receive` takes each frame that comes: its station accepts it, and `hear` takes a joining message or carries it on, and hands on
+//!   what the station makes of all else (`MeterHeard`). `station` lends the station, whose calls `send` and its like are.
 //! - `tick` ends what is old at a time in seconds, a session after `SESSION_TIME`. `leave` drops the ring; `restart` forgets all but the store, and
 //!   ends a halt; `into_keeper` gives the store back.
 //!
@@ -35,6 +35,7 @@ mod laws;
 mod meter;
 mod packets;
 mod pair_key;
+mod receiving;
 mod session;
 
 pub use laws::accepted_frames_came;

@@ -27,3 +27,4 @@ pub mod Replies
 pub mod StationSlots
 pub mod OctetLaws
 pub mod LogSlots
+pub mod Receives

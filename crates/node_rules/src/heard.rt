@@ -1,7 +1,18 @@
 //! What a node makes of a frame that it hears.
 
 use eap_psk::Agreed;
-use plc_base::{Eui, Grant, Key, OctetRef, Short};
+use plc_base::{Eui, Grant, Key, LinkCost, OctetRef, Short};
+
+/// How a frame came to a node.
+#[derive(Clone, Copy, Debug)]
+pub struct Came {
+    /// The cost of the link by which it came.
+    pub cost: LinkCost,
+    /// The caller's number of the frame. It goes on with what the frame carries, and is never sent.
+    pub note: u32,
+    /// When it came, in seconds.
+    pub time: u64,
+}
 
 /// The way on which an accepted frame came.
 #[derive(Clone, Copy, Debug, PartialEq, Eq)]

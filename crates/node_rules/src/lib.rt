@@ -29,7 +29,7 @@ mod session_time;
 mod shown;
 mod table_laws;
 
-pub use heard::{CoordinatorHeard, Heard, MeterHeard, Path, Reply, SentHow, Way};
+pub use heard::{Came, CoordinatorHeard, Heard, MeterHeard, Path, Reply, SentHow, Way};
 pub use laws::{
     a_coordinators_drop_changes_nothing, a_coordinators_hearing_is_bounded, a_drop_changes_nothing,
     a_frame_refused_changes_nothing, a_join_is_bounded, a_join_refused_changes_nothing,
@@ -45,7 +45,7 @@ pub use octet_laws::{
 };
 pub use refusal::{
     CoordinatorRefusal, Dropped, FrameRefusal, Halted, JoinRefusal, LeaveRefusal, LocalRefusal,
-    PresetFault, RandomFault, SendRefusal,
+    PresetFault, RandomFault, SendRefusal, Unheard, heard_or_why,
 };
 pub use session_time::SESSION_TIME;
 pub use shown::{Shown, ShownPeer, ShownPeers, ShownRef, ShownRoute, ShownRoutes};

@@ -1,4 +1,7 @@
 //! Why a node refuses: the words of its answers, in the order in which they are tried.
+ghost use Rattle.std.specs.Prelude.{◌≡◌};
+ghost use Rattle.node_rules.specs.Receives.{heard_or_why};
+
 use thiserror::Error;
 
 /// The node is halted: a store write failed, its store had no reading when it last restarted, or its caller halted it.
@@ -99,6 +102,60 @@ pub enum Dropped {
     /// A store write failed. The node is halted, and nothing was sent or handed up.
     #[error("a store write failed")]
     Store,
+}
+
+/// Why a frame that came was not heard. After `Refused` and `Dropped` the node is not halted, and no reason in them is Halted or Store.
+#[derive(Clone, Copy, Debug, PartialEq, Eq, Error)]
+pub enum Unheard {
+    /// The node is halted. Nothing has changed.
+    #[error("the node is halted")]
+    Halted,
+    /// A store write failed. The node is halted, and nothing was sent or handed up.
+    #[error("a store write failed")]
+    Store,
+    /// The frame was not accepted. Nothing has changed.
+    #[error("{0}")]
+    Refused(FrameRefusal),
+    /// The frame was accepted, and dropped. The mark of its sender is kept, and nothing else has changed.
+    #[error("{0}")]
+    Dropped(Dropped),
+}
+
+impl From<FrameRefusal> for Unheard {
+    ghost use Rattle.node_rules.specs.Receives.{why_refused};
+
+    ghost from_gives = { λ reason unheard. unheard ≡ why_refused reason };
+
+    fn from(reason: FrameRefusal) -> Unheard {
+        match reason {
+            FrameRefusal::Halted => Unheard::Halted,
+            FrameRefusal::Store => Unheard::Store,
+            reason => Unheard::Refused(reason),
+        }
+    }
+}
+
+impl From<Dropped> for Unheard {
+    ghost use Rattle.node_rules.specs.Receives.{why_dropped};
+
+    ghost from_gives = { λ reason unheard. unheard ≡ why_dropped reason };
+
+    fn from(reason: Dropped) -> Unheard {
+        match reason {
+            Dropped::Store => Unheard::Store,
+            reason => Unheard::Dropped(reason),
+        }
+    }
+}
+
+/// What was heard of an accepted frame, or why it was not.
+pub fn heard_or_why<H>(heard: Result<H, Dropped>) -> Result<H, Unheard>
+    ensures { result ≡ heard_or_why heard }
+{
+    match heard {
+        Ok(heard) => Ok(heard),
+        Err(reason) => Err(Unheard::from(reason)),
+    }
 }
 
 /// Why a datagram or a command is not sent. They are tried in this order; nothing has changed after each of them but Store.

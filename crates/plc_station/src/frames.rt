@@ -1,5 +1,5 @@
 //! Which frames a station accepts.
-ghost use Rattle.std.specs.Prelude.{◌≡◌, ◌==◌, ◌||◌, ◌+◌, ◌<◌, ◌≤◌, true, false, Some, None, Ok, Err, IfSome, ◌++◌, [], IfNone, IfOk, OnErr, length};
+ghost use Rattle.std.specs.Prelude.{◌≡◌, ◌==◌, ◌||◌, ◌+◌, ◌<◌, ◌≤◌, true, false, Some, None, Ok, Err, IfSome, IsSome, ◌++◌, [], IfNone, IfOk, OnErr, length};
 ghost use Rattle.node_rules.specs.Carrying.{Carries, nothing};
 ghost use Rattle.node_rules.specs.Agreement.{Agrees};
 ghost use Rattle.plc_station.specs.Ready.{After, Ready};
@@ -83,6 +83,7 @@ impl<K: Keeper + Drop> Station<K> {
             (accepted_on result payload.now) nothing self.new) }
         ensures after { After self.old self.new }
         ensures same { IfOk result (λ on. on ≡ path) }
+        ensures running { IfOk result (λ _. IsSome self.new.memory) }
     {
         if let Err(fault) = self.parts.marks.room(from, counter) {
             return Err(mark_refusal(fault));
@@ -115,6 +116,7 @@ impl<K: Keeper + Drop> Station<K> {
             (accepted_on result payload.new) nothing self.new) }
         ensures after { After self.old self.new }
         ensures fits { IfOk result (λ path. FitsPath path (length payload.new)) }
+        ensures running { IfOk result (λ _. IsSome self.new.memory) }
     {
         let Some(key) = self.parts.ring.key(index) else {
             return Err(FrameRefusal::NoKey);
@@ -140,6 +142,7 @@ impl<K: Keeper + Drop> Station<K> {
             (accepted_on result payload.new) nothing self.new) }
         ensures after { After self.old self.new }
         ensures fits { IfOk result (λ path. FitsPath path (length payload.new)) }
+        ensures running { IfOk result (λ _. IsSome self.new.memory) }
     {
         if !self.is_for_me(&raw.head) {
             return Err(FrameRefusal::NotForMe);
@@ -172,6 +175,7 @@ impl<K: Keeper + Drop> Station<K> {
             (arrived network octets.now)) (accepted_on result payload.new) nothing self.new) }
         ensures after { After self.old self.new }
         ensures fits { IfOk result (λ path. FitsPath path (length payload.new)) }
+        ensures running { IfOk result (λ _. IsSome self.new.memory) }
     {
         if self.halted {
             return Err(FrameRefusal::Halted);
@@ -191,6 +195,7 @@ impl<K: Keeper + Drop> Station<K> {
             (arrived network octets.now)) (accepted_on result payload.new) nothing self.new) }
         ensures after { After self.old self.new }
         ensures fits { IfOk result (λ path. FitsPath path (length payload.new)) }
+        ensures running { IfOk result (λ _. IsSome self.new.memory) }
         ensures empty { OnErr result (payload.new ≡ []) }
     {
         let opened = self.open_octets(octets, payload);
@@ -202,7 +207,8 @@ impl<K: Keeper + Drop> Station<K> {
     }
 
     /// Takes octets that came as a frame: opens them, and keeps the counter of a sealed frame as the mark of its sender. What is
-    /// inside an accepted frame replaces what `payload` held; after a refusal `payload` is empty.
+    /// inside an accepted frame replaces what `payload` held; after a refusal `payload` is empty. A station that accepted a frame is
+    /// not halted, so it may hear it.
     ///
     /// Halted, Malformed, NotForMe, NoKey, BadTag, Replayed, PeersFull, Store, in this order.
     pub fn accept<'a>(
@@ -216,6 +222,7 @@ impl<K: Keeper + Drop> Station<K> {
             (λ l. Carries self.old (accepting.accept l self.old.eui
             (arrived network octets.now)) result nothing self.new) }
         ensures after { After self.old self.new }
+        ensures running { IfOk result (λ _. IsSome self.new.memory) }
         ensures waits { IfSome self.new.memory (λ l. WaitingFits l) }
     {
         let opened = self.open_or_clear(octets, payload);

@@ -8,9 +8,9 @@
 //! - `open` reads the store. [`OpenFault`] says why it can't, and the keeper comes back. `install` keeps the grant of a
 //!   joining: the address and the group keys. `put_key`, `activate` and `leave` change the ring later; `preset_counter`,
 //!   `preset_number` and `preset_near` set values in the workshop.
-//! - `accept` takes octets that came as a frame, opens them into a buffer that the caller lends, and answers what is inside
-//!   ([`Accepted`]); `hear` takes that, once, and makes of it what the rules say (`Heard`), at a time, over a link of a cost.
-//!   Both are called for each frame.
+//! - `receive` takes octets that came as a frame, at a time, over a link of a cost, opens them into [`Buffers`] that the caller
+//!   lends, and makes of what is inside what the rules say (`Heard`), or says why not (`Unheard`). It is `accept`, which answers
+//!   what is inside ([`Accepted`]), and `hear`, which takes that, once: both are there for one who looks at a frame between them.
 //! - `send` sends a datagram of up to 1,280 octets, `send_command` a command over the mesh, and `send_local` one to neighbours.
 //!   `room` says beforehand what a command would be refused for.
 //! - `tick` ends what is old at a time in seconds; `broke` ends the routes by a neighbour that is not reached any more.
@@ -33,8 +33,8 @@
 //! failed it is halted, with nothing sent, until `restart` has read the store again. `hear`, `install` and their like ask for a
 //! station that is not halted (`ready`), which `halted` answers.
 //!
-//! For example, a node that is installed and gets a frame: `accept` refuses it as Replayed, or answers what is inside; `hear`
-//! then answers `Heard::Up` with the datagram for this node, or `Heard::Relayed` with the frame for the next hop in `out`.
+//! For example, a node that is installed and gets a frame: `receive` refuses it as Replayed, or answers
+//! `Heard::Up` with the datagram for this node, or `Heard::Relayed` with the frame for the next hop in `out`.
 //! `docs/CRATES.md` has the code.
 #![tactic(auto)]
 
@@ -52,6 +52,7 @@ mod own_replies;
 mod parts;
 mod pieces;
 mod presets;
+mod receiving;
 mod relays;
 mod replies;
 mod ring_changes;
@@ -63,4 +64,5 @@ mod showing;
 mod station;
 
 pub use accepted::Accepted;
+pub use receiving::Buffers;
 pub use station::{OpenFault, Station};

@@ -82,9 +82,6 @@ impl Node {
         let Ok(got) = self.station.accept(frame, &mut buffers.payload) else {
             return false;
         };
-        if self.station.halted() {
-            return false;
-        }
         let heard = self
             .station
             .hear(got, cost, 0, 0, &mut buffers.datagram, &mut self.out);

@@ -2,8 +2,8 @@
 use crate::Flash;
 use core::mem::MaybeUninit;
 use meter_node::Meter;
-use node_rules::{Heard, MeterHeard};
-use plc_station::OpenFault;
+use node_rules::{Came, Heard, MeterHeard, Unheard};
+use plc_station::{Buffers, OpenFault};
 use plc_base::{DatagramBuf, Eui, FrameBuf, Grant, Key, LinkCost, Out, Rand, Short};
 use rattle_std::alloc::Global;
 
@@ -29,8 +29,7 @@ pub enum Trouble {
 pub struct Driver {
     meter: Meter<Flash>,
     out: Out,
-    payload: FrameBuf,
-    datagram: DatagramBuf,
+    buffers: Buffers,
 }
 
 /// Opens the meter into a place for one. A move out of the answer would make a second copy of it on the stack.
@@ -66,8 +65,8 @@ impl Driver {
                 return Err(OpenFault::Memory);
             };
             (&raw mut (*at).out).write(out);
-            (&raw mut (*at).payload).write(FrameBuf::new());
-            (&raw mut (*at).datagram).write(DatagramBuf::new());
+            (&raw mut (*at).buffers.payload).write(FrameBuf::new());
+            (&raw mut (*at).buffers.datagram).write(DatagramBuf::new());
             Ok(place.assume_init_mut())
         }
     }
@@ -105,16 +104,12 @@ impl Driver {
 
     /// Takes a frame from the line, with the cost of the link that it came by.
     pub fn hear(&mut self, modem: &mut impl Modem, frame: &[u8], cost: LinkCost, now: u64) -> Result<(), Trouble> {
-        let Ok(got) = self.meter.station().accept(frame, &mut self.payload) else {
-            return Err(self.trouble());
-        };
-        if self.meter.station().halted() {
-            return Err(Trouble::Halted);
-        }
-        match self.meter.hear(got, cost, 0, now, &mut self.datagram, &mut self.out) {
+        let came = Came { cost, note: 0, time: now };
+        match self.meter.receive(frame, came, &mut self.buffers, &mut self.out) {
             Ok(MeterHeard::Station(Heard::Up { from, octets, .. })) => modem.take(from, octets.octets()),
             Ok(_) => {}
-            Err(_) => return Err(self.trouble()),
+            Err(Unheard::Halted | Unheard::Store) => return Err(Trouble::Halted),
+            Err(Unheard::Refused(_) | Unheard::Dropped(_)) => return Err(Trouble::Refused),
         }
         self.flush(modem);
         Ok(())

@@ -3,8 +3,9 @@
 use coordinator::Coordinator;
 use firmware::Flash;
 use meter_node::Meter;
+use node_rules::Came;
 use plc_base::{DatagramBuf, Eui, FrameBuf, Grant, Key, KeyIndex, LinkCost, MOST_FRAMES, Out, Rand, Short};
-use plc_station::Station;
+use plc_station::{Buffers, Station};
 use rattle_std::alloc::Global;
 use std::panic::{AssertUnwindSafe, catch_unwind};
 
@@ -94,6 +95,10 @@ fn up() -> Vec<u8> {
     frame_of(|out| Meter::open(Global, Flash::new(), Eui([3; 8]), key()).map_err(|it| it.0).unwrap().join(agent, 0, out).unwrap())
 }
 
+fn came() -> Came {
+    Came { cost: cost(), note: 0, time: 0 }
+}
+
 /// A meter hears a frame that a joined one accepted.
 fn meter_hears(mut node: Meter<Flash>, frame: &[u8]) {
     let (mut payload, mut datagram, mut out) = (FrameBuf::new(), DatagramBuf::new(), out());
@@ -151,6 +156,9 @@ fn a_coordinator_that_has_not_address_0000_stops() {
     stops("coordinator: hear: ready", || coordinator_hears(homeless()));
     stops("coordinator: challenge: holds", || homeless().challenge(Eui([2; 8]), 0, &mut out()));
     stops("coordinator: tick: holds", || homeless().tick(0));
+    stops("coordinator: receive: holds", || {
+        let _ = homeless().receive(&from_a_meter(), came(), &mut Buffers::new(), &mut out());
+    });
     stops("coordinator: allow: holds", || homeless().allow(Eui([2; 8]), &key()));
     stops("coordinator: depot: holds", || homeless().depot(Eui([2; 8]), &key()));
     stops("coordinator: rekey: holds", || homeless().rekey(KeyIndex::first(), &key()));

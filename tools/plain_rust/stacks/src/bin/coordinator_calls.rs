@@ -44,9 +44,6 @@ mod calls {
     fn hear(node: &mut Node, lent: &mut Lent, event: &Event) -> bool {
         let mut payload = FrameBuf::new();
         let Ok(got) = node.station().accept(event.octets(), &mut payload) else { return false };
-        if node.station().halted() {
-            return false;
-        }
         done(node.hear(got, event.cost, 0, event.now, &mut lent.datagram, &mut lent.out))
     }
 

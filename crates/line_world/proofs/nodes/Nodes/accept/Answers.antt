@@ -34,7 +34,7 @@ returns-then-number-gt0-clause-hears c =
     c.if-number-gt0.true c.requires.there c.index_mut.ensures.value c.station.ensures.value in
     hears its c.accept.new.self c.accept.result
     (meter_may_hear c.index_mut.result.now c.station.result.now c.accept.new.self (arrived network c.args.octets.now) c.accept.result nothing
-    c.accept.ensures.halted c.accept.ensures.carries c.accept.ensures.waits)
+    c.accept.ensures.halted c.accept.ensures.carries c.accept.ensures.running c.accept.ensures.waits)
 
 pub invariant_of-self : goal.invariant_of-self
 invariant_of-self c =
@@ -67,7 +67,7 @@ returns-clause-hears c =
     (omega (arith, c.if-number-gt0.false)) c.station-2.ensures.value in
     hears its c.accept-2.new.self c.accept-2.result
     (may_hear c.in-Some.coordinator c.station-2.result.now c.accept-2.new.self (arrived network c.args.octets.now) c.accept-2.result nothing
-    c.accept-2.ensures.halted c.accept-2.ensures.carries c.accept-2.ensures.waits)
+    c.accept-2.ensures.halted c.accept-2.ensures.carries c.accept-2.ensures.running c.accept-2.ensures.waits)
 
 pub invariant_of-self-2 : goal.invariant_of-self-2
 invariant_of-self-2 c =
