@@ -91,7 +91,7 @@ both_true : (a b : Bool) → a ≡ true → b ≡ true → (a && b) ≡ true
 both_true true b e f = f
 both_true false b e f = absurd (cc)
 
-flew_is : (octets : List ℕ) (key : Key) (f : Flight) → has_octets octets key f ≡ true → (f.octets ≡ octets) × (f.key ≡ Some key)
+pub flew_is : (octets : List ℕ) (key : Key) (f : Flight) → has_octets octets key f ≡ true → (f.octets ≡ octets) × (f.key ≡ Some key)
 flew_is octets key f e = let parts = and_parts _ _ e in ((bytes_eq-Decides f.octets octets).0 parts.0, under_is f.key key parts.1)
 
 is_flown : (octets : List ℕ) (key : Key) (f : Flight) → (f.octets ≡ octets) × (f.key ≡ Some key) → has_octets octets key f ≡ true

@@ -92,15 +92,15 @@ place_has (g ∷ fs) octets key place f e there = by_test (has_octets octets key
     by_test false is rest h = by_rest (first_place fs octets key) refl rest h
 
 -- Octets that a node opened in an event, and how.
-record Opens (w : World) (event : Event) (p : Opening) : Type 0 where
-  number : ℕ
-  comes : Comes w event number p.octets
-  node : Node
-  there : node_at w number ≡ Some node
-  got : Accepted
-  is : (accepting network node p.octets).answer ≡ Ok got
-  from : ℕ
-  path : got.path ≡ paths.Sealed from false p.key
+pub record Opens (w : World) (event : Event) (p : Opening) : Type 0 where
+  pub number : ℕ
+  pub comes : Comes w event number p.octets
+  pub node : Node
+  pub there : node_at w number ≡ Some node
+  pub got : Accepted
+  pub is : (accepting network node p.octets).answer ≡ Ok got
+  pub from : ℕ
+  pub path : got.path ≡ paths.Sealed from false p.key
 
 opens_on : (octets : List ℕ) (path : Path) (p : Opening) → opening_on octets path ≡ Some p
     → (octets ≡ p.octets) × ((from : ℕ) × (path ≡ paths.Sealed from false p.key))
@@ -135,7 +135,7 @@ opens_at w event number octets p comes e = by_node (node_at w number) refl e
     by_node None there e = absurd (cc)
     by_node (Some x) there e = by_answer x there (accepting network x octets).answer refl e
 
-opens_in : (w : World) (event : Event) (p : Opening) → opening w event ≡ Some p → Opens w event p
+pub opens_in : (w : World) (event : Event) (p : Opening) → opening w event ≡ Some p → Opens w event p
 opens_in w (events.Deliver flight number cost) p e = by_flight (flight_at w flight) refl e
   where
     by_flight : (o : Option Flight) → flight_at w flight ≡ o → option_and_then (λ (f : Flight). opening_at w number f.octets) o ≡ Some p

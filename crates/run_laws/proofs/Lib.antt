@@ -13,3 +13,4 @@ mod FateUnits
 mod SealedCame
 mod Datagrams
 mod OctetPlaces
+mod FatePlaces

@@ -7,6 +7,7 @@ use Rattle.run_laws.specs.BesideSizes.{IsBesideSized}
 use Rattle.run_laws.specs.Choices.{AreChosenRightAfter}
 use Rattle.run_laws.specs.DatagramFates.{HaveFates}
 use Rattle.run_laws.specs.Datagrams.{MoveDatagrams}
+use Rattle.run_laws.specs.FatePlaces.{FatesAreAtOnePlace}
 use Rattle.run_laws.specs.OctetPlaces.{StayAtOnePlace}
 
 -- What they say of a run, one by one.
@@ -16,6 +17,7 @@ pub record IsLawful (entries : List Entry) : Type 0 where
   pub datagrams : MoveDatagrams start entries
   pub places : StayAtOnePlace [] [] start entries
   pub fates : NoneForged entries → HaveFates entries (last_world start entries)
+  pub one : NoneForged entries → FatesAreAtOnePlace entries (last_world start entries)
 
 -- so it is of every run of the network
 abbrev pub EveryRunIsLawful : Type 0

@@ -3,13 +3,14 @@ ghost use Rattle.run_laws.specs.Choices.{EveryChoiceIsRight};
 ghost use Rattle.run_laws.specs.BesideSizes.{TablesBesideKeepTheirSizes};
 ghost use Rattle.run_laws.specs.DatagramFates.{EverySendHasAFate};
 ghost use Rattle.run_laws.specs.Datagrams.{EveryDatagramIsMoved};
+ghost use Rattle.run_laws.specs.FatePlaces.{EveryFateIsAtOnePlace};
 ghost use Rattle.run_laws.specs.OctetPlaces.{EveryOctetIsAtOnePlace};
 ghost use Rattle.run_laws.specs.RunLaws.{EveryRunIsLawful};
 
 use line_laws::{
-    every_count_is_right, every_flight_falls, every_flight_is_octets, every_forgery_is_reported,
-    every_history_is_kept, every_log_is_kept, every_nonce_differs, every_run_holds,
-    every_run_holds_throughout, every_run_stays_in_open_custody, every_tag_rises,
+    every_count_is_right, every_datagram_was_sent, every_flight_falls, every_flight_is_octets,
+    every_forgery_is_reported, every_history_is_kept, every_log_is_kept, every_nonce_differs,
+    every_run_holds, every_run_holds_throughout, every_run_stays_in_open_custody, every_tag_rises,
     network_keeps_ranges, the_start_holds,
 };
 use line_progress::{
@@ -82,6 +83,15 @@ pub fn every_send_has_a_fate()
     the_start_holds();
 }
 
+/// After every run of the network in which no event is forged, over restarts and failed writes: two fates of an octet of a datagram that was sent, of which
+/// no event has ended either, are at one place.
+pub fn every_fate_is_at_one_place()
+    ensures { EveryFateIsAtOnePlace }
+{
+    every_octet_is_at_one_place();
+    every_datagram_was_sent();
+}
+
 /// In every run of the network these laws hold.
 pub fn every_run_is_lawful()
     ensures { EveryRunIsLawful }
@@ -91,4 +101,5 @@ pub fn every_run_is_lawful()
     every_datagram_is_moved();
     every_octet_is_at_one_place();
     every_send_has_a_fate();
+    every_fate_is_at_one_place();
 }

@@ -12,6 +12,7 @@
 mod laws;
 
 pub use laws::{
-    every_choice_is_right, every_datagram_is_moved, every_octet_is_at_one_place,
-    every_run_is_lawful, every_send_has_a_fate, tables_beside_keep_their_sizes,
+    every_choice_is_right, every_datagram_is_moved, every_fate_is_at_one_place,
+    every_octet_is_at_one_place, every_run_is_lawful, every_send_has_a_fate,
+    tables_beside_keep_their_sizes,
 };

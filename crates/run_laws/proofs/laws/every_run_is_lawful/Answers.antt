@@ -8,4 +8,5 @@ returns c entries run = record {
   datagrams = c.every_datagram_is_moved.ensures entries run;
   places = c.every_octet_is_at_one_place.ensures entries run;
   fates = c.every_send_has_a_fate.ensures entries run;
+  one = c.every_fate_is_at_one_place.ensures entries run;
 }
