@@ -1,6 +1,8 @@
 -- A description as a whole.
 use Rattle.std.specs.Prelude.{ℕ, ◌==◌, ◌&&◌, ◌||◌, not, nat_lt, nat_le, List, [], ◌∷◌, ◌++◌}
-use Rattle.std.specs.Prelude.{length, codes, Bool, false, if◌then◌else◌, Option, None, Some, Result, Ok, Err}
+use Rattle.std.specs.Prelude.{length, codes, Bool, if◌then◌else◌, Option, None, Some, Result, Ok, Err}
+use Rattle.std.specs.List.{list_any}
+use Rattle.std.specs.Str.{chars}
 use Rattle.std.specs.Option.{option_and_then}
 use Rattle.toml.specs.Data.{Data, Members, as_str, as_array, as_table}
 use Rattle.plan_fields.specs.declared.keys.Key.TheVariants as keys
@@ -63,14 +65,16 @@ head_at top = do
 
 -- # The title
 
--- whether a control character of ASCII is among octets
-abbrev pub has_control : List ℕ → Bool
-has_control [] = false
-has_control (c ∷ cs) = (nat_lt c 32 || c == 127) || has_control cs
+-- Whether a character is a control character of ASCII or of ISO 8859 (C0, DEL, C1), ends a line or a paragraph (2028, 2029), or says which way a text runs
+-- (061C, 200E, 200F, 202A to 202E, 2066 to 2069).
+abbrev pub is_control : ℕ → Bool
+is_control c =
+    nat_lt c 32 || (nat_le 127 c && nat_lt c 160) || c == 1564 || (nat_le 8206 c && nat_lt c 8208)
+    || (nat_le 8232 c && nat_lt c 8239) || (nat_le 8294 c && nat_lt c 8298)
 
 -- one line of at most 200 octets: it stands in a remark of the script
 abbrev pub is_line : List ℕ → Bool
-is_line octets = nat_le (length octets) 200 && not (has_control octets)
+is_line octets = nat_le (length octets) 200 && not (list_any is_control (chars octets))
 
 abbrev pub line_only : List ℕ → Option (List ℕ)
 line_only octets = if is_line octets then Some octets else None
@@ -86,33 +90,33 @@ title_at top = value_at top keys.Title wanted.Line title_in (codes "a line")
 abbrev pub not_tables : WrongValue
 not_tables = record { section = sections.Top; key = keys.At; wanted = wanted.Tables }
 
-abbrev pub incident_of : ℕ → ℕ → Option Members → Result Incident WrongValue
-incident_of meters nth None = Err not_tables
-incident_of meters nth (Some members) = incident_at meters (record { section = sections.At nth; members = members })
+abbrev pub incident_of : PlacePlan → ℕ → ℕ → Option Members → Result Incident WrongValue
+incident_of place meters nth None = Err not_tables
+incident_of place meters nth (Some members) = incident_at meters place (record { section = sections.At nth; members = members })
 
--- the nth incident
-unfoldable pub incident_in : ℕ → ℕ → Data → Result Incident WrongValue
-incident_in meters nth d = incident_of meters nth (as_table d)
+-- the nth incident, of a line with so many meters
+unfoldable pub incident_in : PlacePlan → ℕ → ℕ → Data → Result Incident WrongValue
+incident_in place meters nth d = incident_of place meters nth (as_table d)
 
 -- incidents, and those of more values
-abbrev pub incidents_from : ℕ → List Incident → List Data → Result (List Incident) WrongValue
-incidents_from meters incidents [] = Ok incidents
-incidents_from meters incidents (d ∷ ds) =
-    incident_in meters (length incidents) d >>= λ incident. incidents_from meters (incidents ++ incident ∷ []) ds
+abbrev pub incidents_from : PlacePlan → ℕ → List Incident → List Data → Result (List Incident) WrongValue
+incidents_from place meters incidents [] = Ok incidents
+incidents_from place meters incidents (d ∷ ds) =
+    incident_in place meters (length incidents) d >>= λ incident. incidents_from place meters (incidents ++ incident ∷ []) ds
 
-abbrev pub incidents_of : ℕ → Option (List Data) → Result (List Incident) WrongValue
-incidents_of meters None = Err not_tables
-incidents_of meters (Some values) = incidents_from meters [] values
+abbrev pub incidents_of : PlacePlan → Option (List Data) → Result (List Incident) WrongValue
+incidents_of place None = Err not_tables
+incidents_of place (Some values) = incidents_from place (meters_of place) [] values
 
-unfoldable pub incidents_in : ℕ → Data → Result (List Incident) WrongValue
-incidents_in meters d = incidents_of meters (option_and_then (λ values. Some (listed values)) (as_array d))
+unfoldable pub incidents_in : PlacePlan → Data → Result (List Incident) WrongValue
+incidents_in place d = incidents_of place (option_and_then (λ values. Some (listed values)) (as_array d))
 
-abbrev pub incidents_or : ℕ → Option Data → Result (List Incident) WrongValue
-incidents_or meters None = Ok []
-incidents_or meters (Some d) = incidents_in meters d
+abbrev pub incidents_or : PlacePlan → Option Data → Result (List Incident) WrongValue
+incidents_or place None = Ok []
+incidents_or place (Some d) = incidents_in place d
 
-unfoldable pub incidents_at : ℕ → TableAt → Result (List Incident) WrongValue
-incidents_at meters top = incidents_or meters (get_at top keys.At)
+unfoldable pub incidents_at : PlacePlan → TableAt → Result (List Incident) WrongValue
+incidents_at place top = incidents_or place (get_at top keys.At)
 
 -- # The plan of a table
 
@@ -121,5 +125,5 @@ plan_at top = do
   head ← head_at top
   title ← title_at top
   place ← place_of top
-  incidents ← incidents_at (meters_of place) top
+  incidents ← incidents_at place top
   Ok (record { title = title; seed = head.seed; length = head.length; place = place; air = head.air; owner = head.owner; incidents = incidents })

@@ -1,9 +1,12 @@
 //! A description as a whole.
 ghost use Rattle.std.specs.Prelude.{◌≡◌, IfOk, [], map};
+ghost use Rattle.std.specs.List.{list_any};
+ghost use Rattle.std.specs.Str.{chars};
 ghost use Rattle.toml.specs.View.{view};
 ghost use Rattle.plan_fields.specs.Members.{table_of};
+ghost use Rattle.plan_tables.specs.Places.{meters_of};
 ghost use Rattle.line_plan.specs.Plans.{air_of, joining_of, readings_of, rotation_of, care_of, owner_at};
-ghost use Rattle.line_plan.specs.Plans.{head_at, has_control, is_line, title_in, title_at, place_of};
+ghost use Rattle.line_plan.specs.Plans.{head_at, is_control, is_line, title_in, title_at, place_of};
 ghost use Rattle.line_plan.specs.Plans.{not_tables, incident_in, incidents_from, incidents_in, incidents_at, plan_at};
 
 use plan_fields::{Fields, Key, Section, Wanted, WrongValue};
@@ -160,25 +163,34 @@ fn head_at(top: &Fields<'_>) -> Result<Head, WrongValue>
     })
 }
 
-fn has_control(octets: &[u8]) -> bool
-    ensures { result ≡ has_control octets.now }
+// Whether a character ends a line, turns a text round, or is another control character.
+fn is_control(sign: char) -> bool
+    ensures { result ≡ is_control sign }
 {
-    for octet in octets {
-        if *octet < 32 {
-            return true;
-        }
-        if *octet == 127 {
-            return true;
-        }
-    }
-    false
+    let code = sign as u32;
+    code < 32
+        || (127 <= code && code < 160)
+        || code == 1_564
+        || (8_206 <= code && code < 8_208)
+        || (8_232 <= code && code < 8_239)
+        || (8_294 <= code && code < 8_298)
 }
 
-// Whether octets are one line of at most 200: the title stands in a remark of the script.
-fn is_line(octets: &[u8]) -> bool
-    ensures { result ≡ is_line octets.now }
+fn has_control(text: &str) -> bool
+    ensures { result ≡ list_any is_control (chars text.now) }
 {
-    octets.len() <= 200 && !has_control(octets)
+    let mut found = false;
+    for sign in text.chars() {
+        found = found || is_control(sign);
+    }
+    found
+}
+
+// Whether a text is one line of at most 200 octets: the title stands in a remark of the script.
+fn is_line(text: &str) -> bool
+    ensures { result ≡ is_line text.now }
+{
+    text.len() <= 200 && !has_control(text)
 }
 
 #[tactic(auto, unfolding(crate::specs::Plans::title_in))]
@@ -188,7 +200,7 @@ fn title_in(alloc: Global, value: &Value) -> Result<Option<Title>, AllocError>
     let Some(text) = value.as_str() else {
         return Ok(None);
     };
-    if !is_line(text.as_bytes()) {
+    if !is_line(text) {
         return Ok(None);
     }
     let text = String::from_str(alloc, text)?;
@@ -235,14 +247,15 @@ fn not_tables() -> WrongValue
 #[tactic(auto, unfolding(crate::specs::Plans::incident_in))]
 fn incident_in(
     alloc: Global,
+    place: &PlacePlan,
     meters: u32,
     nth: usize,
     value: &Value,
 ) -> Result<Result<Incident, WrongValue>, AllocError>
-    ensures { IfOk result (λ read. read ≡ incident_in meters nth (view value.now)) }
+    ensures { IfOk result (λ read. read ≡ incident_in place.now meters nth (view value.now)) }
 {
     match value.as_table() {
-        Some(table) => Incident::read(alloc, &Fields::of(Section::At(nth), table), meters),
+        Some(table) => Incident::read(alloc, &Fields::of(Section::At(nth), table), meters, place),
         None => Ok(Err(not_tables())),
     }
 }
@@ -250,14 +263,15 @@ fn incident_in(
 // The incidents of values.
 fn incidents_from(
     alloc: Global,
-    meters: u32,
+    place: &PlacePlan,
     values: &[Value],
 ) -> Result<Result<IncidentList, WrongValue>, AllocError>
-    ensures { IfOk result (λ read. read ≡ incidents_from meters [] (map view values.now)) }
+    ensures { IfOk result (λ read. read ≡ incidents_from place.now (meters_of place.now) [] (map view values.now)) }
 {
+    let meters = place.meters();
     let mut incidents: Vec<Incident> = Vec::new(alloc);
     for value in values {
-        match incident_in(alloc, meters, incidents.len(), value)? {
+        match incident_in(alloc, place, meters, incidents.len(), value)? {
             Ok(incident) => incidents.push(incident)?,
             Err(wrong) => return Ok(Err(wrong)),
         }
@@ -268,13 +282,13 @@ fn incidents_from(
 #[tactic(auto, unfolding(crate::specs::Plans::incidents_in), using(plan_tables::proofs::Listing::listed_view))]
 fn incidents_in(
     alloc: Global,
-    meters: u32,
+    place: &PlacePlan,
     value: &Value,
 ) -> Result<Result<IncidentList, WrongValue>, AllocError>
-    ensures { IfOk result (λ read. read ≡ incidents_in meters (view value.now)) }
+    ensures { IfOk result (λ read. read ≡ incidents_in place.now (view value.now)) }
 {
     match value.as_array() {
-        Some(values) => incidents_from(alloc, meters, values.as_slice()),
+        Some(values) => incidents_from(alloc, place, values.as_slice()),
         None => Ok(Err(not_tables())),
     }
 }
@@ -282,16 +296,16 @@ fn incidents_in(
 #[tactic(auto, unfolding(crate::specs::Plans::incidents_at))]
 fn incidents_at(
     alloc: Global,
-    meters: u32,
+    place: &PlacePlan,
     top: &Fields<'_>,
 ) -> Result<Result<IncidentList, WrongValue>, AllocError>
-    ensures { IfOk result (λ read. read ≡ incidents_at meters (table_of top.now)) }
+    ensures { IfOk result (λ read. read ≡ incidents_at place.now (table_of top.now)) }
 {
     match top.get(Key::At) {
         None => Ok(Ok(IncidentList {
             incidents: Vec::new(alloc),
         })),
-        Some(value) => incidents_in(alloc, meters, value),
+        Some(value) => incidents_in(alloc, place, value),
     }
 }
 
@@ -315,7 +329,7 @@ pub(crate) fn plan_at(
         Ok(place) => place,
         Err(wrong) => return Ok(Err(wrong)),
     };
-    let incidents = match incidents_at(alloc, place.meters(), top)? {
+    let incidents = match incidents_at(alloc, &place, top)? {
         Ok(incidents) => incidents,
         Err(wrong) => return Ok(Err(wrong)),
     };

@@ -37,9 +37,12 @@ wanted_text key (wanted.FromOneTo most) = codes "a number from 1 to " ++ decimal
 wanted_text key wanted.Flats = codes "such that there are at most 998 flats in all"
 wanted_text key wanted.Cost = codes "a number from 1 to 255, or \"by loss\""
 wanted_text key wanted.Links = codes "a list of [from, to, loss] or [from, to, loss, cost], ascending by from and to, with nodes up to 998"
-wanted_text key wanted.Line = codes "one line of at most 200 octets"
+wanted_text key wanted.Line = codes "one line of at most 200 octets, without control characters"
 wanted_text key wanted.Nodes = codes "a list of nodes of the line"
-wanted_text key wanted.TwoNodes = codes "a list of two nodes"
+wanted_text key wanted.Meters = codes "a list of meters of the line"
+wanted_text key wanted.NoNode = codes "left out where nodes are listed"
+wanted_text key wanted.TwoNodes = codes "a list of two different nodes"
+wanted_text key wanted.Linked = codes "a list of two nodes of which one hears the other"
 
 abbrev pub wrong_text : WrongValue → List ℕ
 wrong_text wrong = codes "the value of " ++ key_word wrong.key ++ codes " has to be " ++ wanted_text wrong.key wrong.wanted

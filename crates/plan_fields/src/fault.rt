@@ -76,8 +76,14 @@ pub enum Wanted {
     Line,
     /// Nodes of the line.
     Nodes,
+    /// Meters of the line.
+    Meters,
+    /// Nothing, since nodes are listed.
+    NoNode,
     /// Two nodes of the line.
     TwoNodes,
+    /// Two nodes of which one hears the other.
+    Linked,
 }
 
 /// The value of a key does not fit it.
@@ -176,9 +182,14 @@ impl fmt::Display for WantedOf {
             Wanted::Links => f.write_str(
                 "a list of [from, to, loss] or [from, to, loss, cost], ascending by from and to, with nodes up to 998",
             ),
-            Wanted::Line => f.write_str("one line of at most 200 octets"),
+            Wanted::Line => {
+                f.write_str("one line of at most 200 octets, without control characters")
+            }
             Wanted::Nodes => f.write_str("a list of nodes of the line"),
-            Wanted::TwoNodes => f.write_str("a list of two nodes"),
+            Wanted::Meters => f.write_str("a list of meters of the line"),
+            Wanted::NoNode => f.write_str("left out where nodes are listed"),
+            Wanted::TwoNodes => f.write_str("a list of two different nodes"),
+            Wanted::Linked => f.write_str("a list of two nodes of which one hears the other"),
         }
     }
 }

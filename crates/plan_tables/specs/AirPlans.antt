@@ -1,5 +1,5 @@
 -- What is set of the air.
-use Rattle.std.specs.Prelude.{List, codes, ℕ, true, false, if◌then◌else◌, Option, None, Some, Result, Ok}
+use Rattle.std.specs.Prelude.{List, codes, ℕ, nat_lt, true, false, if◌then◌else◌, Option, None, Some, Result, Ok, Err}
 use Rattle.std.specs.Str.{bytes_eq}
 use Rattle.std.specs.Option.{option_and_then}
 use Rattle.toml.specs.Data.{Data, as_str}
@@ -12,7 +12,7 @@ use Rattle.plan_tables.specs.declared.air_plan.Limits.{Limits}
 use Rattle.plan_tables.specs.declared.air_plan.Waits.{Waits}
 use Rattle.plan_tables.specs.declared.air_plan.Choices.{Choices}
 use Rattle.plan_tables.specs.declared.air_plan.AirPlan.{AirPlan}
-use Rattle.plan_fields.specs.Faults.{TableAt, ◌>>=◌, value_at, number_at, flag_at}
+use Rattle.plan_fields.specs.Faults.{TableAt, ◌>>=◌, wrong_at, value_at, number_at, flag_at}
 
 abbrev pub rate_named : List ℕ → Option PlannedRate
 rate_named word =
@@ -36,14 +36,15 @@ limits_at table = do
   backoffs ← number_at table keys.Backoffs 50 1000
   Ok (record { repeats = repeats; break_after = break_after; backoffs = backoffs })
 
--- how long a frame waits
+-- how long a frame waits, where the first exponent is at most the last
 unfoldable pub waits_at : TableAt → Result Waits WrongValue
 waits_at table = do
   min_be ← number_at table keys.MinBe 3 16
   max_be ← number_at table keys.MaxBe 8 16
   jitter_ms ← number_at table keys.JitterMs 300 60000
   ack_loss ← number_at table keys.AckLoss 25 100
-  Ok (record { min_be = min_be; max_be = max_be; jitter_ms = jitter_ms; ack_loss = ack_loss })
+  if nat_lt max_be min_be then Err (wrong_at table keys.MinBe (wanted.UpTo max_be))
+      else Ok (record { min_be = min_be; max_be = max_be; jitter_ms = jitter_ms; ack_loss = ack_loss })
 
 -- what else is modelled
 unfoldable pub choices_at : TableAt → Result Choices WrongValue

@@ -1,5 +1,5 @@
 -- What happens to the line: failures, the owner's orders, attackers.
-use Rattle.std.specs.Prelude.{ℕ, ◌==◌, List, [], ◌∷◌, ◌++◌, length, codes, Bool, true, if◌then◌else◌, Option, None, Some, Result, Ok, Err}
+use Rattle.std.specs.Prelude.{ℕ, ◌==◌, List, [], ◌∷◌, ◌++◌, codes, true, false, if◌then◌else◌, Option, None, Some, Result, Ok, Err}
 use Rattle.std.specs.Str.{bytes_eq}
 use Rattle.std.specs.Option.{option_and_then}
 use Rattle.toml.specs.Data.{Data, as_str, as_array}
@@ -16,10 +16,13 @@ use Rattle.plan_tables.specs.declared.incidents.What.{What}
 use Rattle.plan_tables.specs.declared.incidents.What.TheVariants.{PowerFails, WriteFails, NoiseComes, LinkFails, MetersKicked, KeyChanges}
 use Rattle.plan_tables.specs.declared.incidents.What.TheVariants.{FramesReplayed, FramesDelayed, JoinsForged}
 use Rattle.plan_tables.specs.declared.incidents.Incident.{Incident}
+use Rattle.plan_tables.specs.declared.incidents.NodesOf.{NodesOf}
 use Rattle.plan_tables.specs.declared.incidents.Outline.{Outline}
-use Rattle.plan_fields.specs.Values.{number_up_to, seconds_in}
+use Rattle.plan_tables.specs.declared.places.PlacePlan.{PlacePlan}
+use Rattle.plan_fields.specs.Values.{number_up_to, number_from_one_to, seconds_in}
 use Rattle.plan_fields.specs.Faults.{TableAt, ◌>>=◌, checked_at, get_at, wrong_at, value_at, number_at, positive_at, seconds_at, chance_at}
 use Rattle.plan_tables.specs.Links.{listed}
+use Rattle.plan_tables.specs.Places.{may_hear}
 
 abbrev pub needed : {A : Type 0} → (Data → Option A) → Option Data → Option A
 needed read d = option_and_then read d
@@ -103,37 +106,56 @@ what_of table kinds.FalseJoins = Ok JoinsForged
 
 -- # Nodes
 
--- a node of a line with so many meters
-unfoldable pub node_of : ℕ → Data → Option ℕ
-node_of meters d = number_up_to meters d
+-- which nodes may be named: not the coordinator, where meters are shut out
+abbrev pub nodes_of : What → ℕ → NodesOf
+nodes_of MetersKicked meters = record { meters = meters; is_meter = true }
+nodes_of what meters = record { meters = meters; is_meter = false }
+
+abbrev pub wanted_one : NodesOf → Wanted
+wanted_one those = if those.is_meter then wanted.FromOneTo those.meters else wanted.UpTo those.meters
+
+abbrev pub wanted_list : NodesOf → Wanted
+wanted_list those = if those.is_meter then wanted.Meters else wanted.Nodes
+
+unfoldable pub node_of : NodesOf → Data → Option ℕ
+node_of those d = if those.is_meter then number_from_one_to those.meters d else number_up_to those.meters d
 
 -- nodes, and those of more values
-abbrev pub numbers_from : ℕ → List ℕ → List Data → Option (List ℕ)
-numbers_from meters nodes [] = Some nodes
-numbers_from meters nodes (d ∷ ds) = option_and_then (λ node. numbers_from meters (nodes ++ node ∷ []) ds) (node_of meters d)
+abbrev pub numbers_from : NodesOf → List ℕ → List Data → Option (List ℕ)
+numbers_from those nodes [] = Some nodes
+numbers_from those nodes (d ∷ ds) = option_and_then (λ node. numbers_from those (nodes ++ node ∷ []) ds) (node_of those d)
 
 abbrev pub one_of : Option ℕ → Option (List ℕ)
 one_of (Some node) = Some (node ∷ [])
 one_of None = None
 
-abbrev pub single : ℕ → Data → Option (List ℕ)
-single meters d = one_of (node_of meters d)
+-- the node that a value is
+unfoldable pub one_node : NodesOf → Data → Option (List ℕ)
+one_node those d = one_of (node_of those d)
 
--- the node that `node` names
-unfoldable pub one_node : ℕ → TableAt → Result (List ℕ) WrongValue
-one_node meters table = value_at table keys.Node wanted.Nodes (single meters) []
+-- the nodes that a value lists
+unfoldable pub some_nodes : NodesOf → Data → Option (List ℕ)
+some_nodes those d = option_and_then (λ values. numbers_from those [] (listed values)) (as_array d)
 
-unfoldable pub some_nodes : ℕ → List ℕ → Data → Option (List ℕ)
-some_nodes meters nodes d = option_and_then (λ values. numbers_from meters nodes (listed values)) (as_array d)
+abbrev pub nodes_by : NodesOf → TableAt → Option Data → Option Data → Result (List ℕ) WrongValue
+nodes_by those table (Some d) (Some e) = Err (wrong_at table keys.Node wanted.NoNode)
+nodes_by those table (Some d) None = checked_at table keys.Node (wanted_one those) (one_node those d)
+nodes_by those table None (Some e) = checked_at table keys.Nodes (wanted_list those) (some_nodes those e)
+nodes_by those table None None = Ok []
 
--- the nodes that `node` and `nodes` name
-unfoldable pub nodes_at : ℕ → TableAt → Result (List ℕ) WrongValue
-nodes_at meters table =
-    one_node meters table >>= λ nodes. value_at table keys.Nodes wanted.Nodes (some_nodes meters nodes) nodes
+-- the nodes that `node` or `nodes` names; not both may be there
+unfoldable pub nodes_at : NodesOf → TableAt → Result (List ℕ) WrongValue
+nodes_at those table = nodes_by those table (get_at table keys.Node) (get_at table keys.Nodes)
 
-abbrev pub are_enough : What → List ℕ → Bool
-are_enough (LinkFails seconds) nodes = length nodes == 2
-are_enough what nodes = true
+-- what the nodes of a link that fails have to be, where these are not: two, of which one may hear the other
+abbrev pub link_wanted : PlacePlan → List ℕ → Option Wanted
+link_wanted place (a ∷ b ∷ []) =
+    if a == b then Some wanted.TwoNodes else if may_hear place a b then None else Some wanted.Linked
+link_wanted place nodes = Some wanted.TwoNodes
+
+abbrev pub nodes_wanted : What → PlacePlan → List ℕ → Option Wanted
+nodes_wanted (LinkFails seconds) place nodes = link_wanted place nodes
+nodes_wanted what place nodes = None
 
 -- # An incident
 
@@ -142,7 +164,7 @@ time_at table = needed_at table keys.At wanted.Time seconds_in
 
 -- how many meters are drawn
 unfoldable pub drawn_at : ℕ → TableAt → Result ℕ WrongValue
-drawn_at meters table = value_at table keys.Meters (wanted.UpTo meters) (node_of meters) 1
+drawn_at meters table = number_at table keys.Meters 1 meters
 
 unfoldable pub outline_at : ℕ → TableAt → Result Outline WrongValue
 outline_at meters table = do
@@ -152,10 +174,14 @@ outline_at meters table = do
   drawn ← drawn_at meters table
   Ok (record { at = at; what = what; meters = drawn })
 
-unfoldable pub incident_at : ℕ → TableAt → Result Incident WrongValue
-incident_at meters table = do
+abbrev pub incident_with : TableAt → Outline → List ℕ → Option Wanted → Result Incident WrongValue
+incident_with table outline nodes (Some what) = Err (wrong_at table keys.Nodes what)
+incident_with table outline nodes None =
+    Ok (record { at = outline.at; what = outline.what; nodes = nodes; meters = outline.meters })
+
+-- of a line with so many meters at a place
+unfoldable pub incident_at : ℕ → PlacePlan → TableAt → Result Incident WrongValue
+incident_at meters place table = do
   outline ← outline_at meters table
-  nodes ← nodes_at meters table
-  if are_enough outline.what nodes
-      then Ok (record { at = outline.at; what = outline.what; nodes = nodes; meters = outline.meters })
-      else Err (wrong_at table keys.Nodes wanted.TwoNodes)
+  nodes ← nodes_at (nodes_of outline.what meters) table
+  incident_with table outline nodes (nodes_wanted outline.what place nodes)

@@ -1,5 +1,5 @@
 -- Measured links, as rows of numbers.
-use Rattle.std.specs.Prelude.{ℕ, ◌==◌, ◌&&◌, ◌||◌, nat_lt, max, Bool, true, if◌then◌else◌, List, [], ◌∷◌, ◌++◌, Option, None, Some, is_some}
+use Rattle.std.specs.Prelude.{ℕ, ◌==◌, ◌&&◌, ◌||◌, nat_lt, max, Bool, true, false, if◌then◌else◌, List, [], ◌∷◌, ◌++◌, Option, None, Some, is_some}
 use Rattle.std.specs.Prelude.{Result, length, ◌-◌, slice_get}
 use Rattle.toml.specs.Data.{Data, Items, no_items, item, at, as_array}
 use Rattle.line_place.specs.declared.link.Costs.{Costs}
@@ -56,6 +56,11 @@ farther most (link ∷ links) = farther (max (max link.from link.link.to) most) 
 
 abbrev pub farthest : List MeasuredLink → ℕ
 farthest links = farther 0 links
+
+-- whether there is a link from a node to another
+abbrev pub has_link : ℕ → ℕ → List MeasuredLink → Bool
+has_link from to [] = false
+has_link from to (link ∷ links) = (link.from == from && link.link.to == to) || has_link from to links
 
 -- items as a list
 abbrev pub listed : Items → List Data

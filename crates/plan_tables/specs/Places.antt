@@ -1,5 +1,5 @@
 -- Who hears whom, as the description says it.
-use Rattle.std.specs.Prelude.{ℕ, ◌*◌, List, codes, Bool, true, false, nat_lt, if◌then◌else◌, Option, None, Some, Result, Ok, Err}
+use Rattle.std.specs.Prelude.{ℕ, ◌*◌, ◌||◌, List, codes, Bool, true, false, nat_lt, if◌then◌else◌, Option, None, Some, is_some, Result, Ok, Err}
 use Rattle.std.specs.Str.{bytes_eq}
 use Rattle.std.specs.Option.{option_and_then}
 use Rattle.toml.specs.Data.{Data, as_str}
@@ -16,7 +16,8 @@ use Rattle.plan_tables.specs.declared.places.Kind.TheVariants.{InStreet, InGrid,
 use Rattle.plan_tables.specs.declared.places.PlacePlan.{PlacePlan}
 use Rattle.plan_fields.specs.Values.{number_from_one_to}
 use Rattle.plan_fields.specs.Faults.{TableAt, ◌>>=◌, wrong_at, value_at, positive_at, chance_at}
-use Rattle.plan_tables.specs.Links.{matrix_at, farthest}
+use Rattle.line_place.specs.Distances.{street_far, grid_far, tower_far}
+use Rattle.plan_tables.specs.Links.{matrix_at, farthest, has_link}
 
 -- # Costs
 
@@ -132,3 +133,15 @@ meters_in (Measured links) = farthest links
 
 abbrev pub meters_of : PlacePlan → ℕ
 meters_of place = meters_in place.kind
+
+-- whether a frame of a node reaches another, which it may where the nodes are scattered, since their spots are drawn
+abbrev pub may_reach : Kind → ℕ → ℕ → Bool
+may_reach (InStreet street) a b = is_some (street_far street a b)
+may_reach (InGrid grid meters) a b = is_some (grid_far grid a b)
+may_reach (InTower tower meters) a b = is_some (tower_far tower a b)
+may_reach (Scattered field) a b = true
+may_reach (Measured links) a b = has_link a b links
+
+-- whether one of two nodes may hear the other
+abbrev pub may_hear : PlacePlan → ℕ → ℕ → Bool
+may_hear place a b = may_reach place.kind a b || may_reach place.kind b a

@@ -106,13 +106,16 @@ fn limits_at(fields: &Fields<'_>) -> Result<Limits, WrongValue>
 fn waits_at(fields: &Fields<'_>) -> Result<Waits, WrongValue>
     ensures { result ≡ waits_at (table_of fields.now) }
 {
-    let min_be = fields.number(Key::MinBe, 3, 16)? as u8;
-    let max_be = fields.number(Key::MaxBe, 8, 16)? as u8;
+    let min_be = fields.number(Key::MinBe, 3, 16)?;
+    let max_be = fields.number(Key::MaxBe, 8, 16)?;
     let jitter_ms = fields.number(Key::JitterMs, 300, 60_000)? as u32;
     let ack_loss = fields.number(Key::AckLoss, 25, 100)? as u16;
+    if min_be > max_be {
+        return Err(fields.wrong(Key::MinBe, Wanted::UpTo(max_be)));
+    }
     Ok(Waits {
-        min_be,
-        max_be,
+        min_be: min_be as u8,
+        max_be: max_be as u8,
         jitter_ms,
         ack_loss,
     })

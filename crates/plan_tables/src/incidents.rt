@@ -1,12 +1,14 @@
 //! What happens to the line: failures, the owner's orders, attackers.
-ghost use Rattle.std.specs.Prelude.{◌≡◌, IfOk, map};
+ghost use Rattle.std.specs.Prelude.{◌≡◌, IfOk, [], map};
 ghost use Rattle.toml.specs.View.{view};
 ghost use Rattle.plan_fields.specs.Members.{table_of};
 ghost use Rattle.plan_tables.specs.Incidents.{what_named, what_in, what_at, leaves_named, leaves_in, leaves_at};
 ghost use Rattle.plan_tables.specs.Incidents.{torn_at, noise_at, rekey_at, replay_at, delay_at, what_of};
-ghost use Rattle.plan_tables.specs.Incidents.{node_of, numbers_from, one_node, some_nodes, nodes_at, time_at, are_enough, drawn_at, outline_at, incident_at};
+ghost use Rattle.plan_tables.specs.Incidents.{nodes_of, wanted_one, wanted_list, node_of, numbers_from, one_node, some_nodes, nodes_at, time_at};
+ghost use Rattle.plan_tables.specs.Incidents.{link_wanted, nodes_wanted, drawn_at, outline_at, incident_at};
 
-use plan_fields::{Fields, Key, Wanted, WrongValue, number_up_to, seconds_in};
+use crate::places::PlacePlan;
+use plan_fields::{Fields, Key, Wanted, WrongValue, number_from_one_to, number_up_to, seconds_in};
 use std::alloc::{AllocError, Global};
 use std::marker::Model;
 use toml::Value;
@@ -75,6 +77,48 @@ impl NodeList {
         ensures { result.now ≡ self.now }
     {
         self.nodes.as_slice()
+    }
+}
+
+// Which nodes may be named.
+#[derive(Clone, Copy)]
+struct NodesOf {
+    /// How many meters there are.
+    meters: u32,
+    /// Whether it has to be a meter, and no coordinator.
+    is_meter: bool,
+}
+
+impl NodesOf {
+    // The coordinator is not shut out.
+    fn new(what: &What, meters: u32) -> NodesOf
+        ensures { result ≡ nodes_of what.now meters }
+    {
+        NodesOf {
+            meters,
+            is_meter: matches!(what, What::MetersKicked),
+        }
+    }
+
+    fn one(self) -> Wanted
+        ensures { result ≡ wanted_one self }
+    {
+        let most = u64::from(self.meters);
+        if self.is_meter {
+            Wanted::FromOneTo(most)
+        } else {
+            Wanted::UpTo(most)
+        }
+    }
+
+    fn list(self) -> Wanted
+        ensures { result ≡ wanted_list self }
+    {
+        if self.is_meter {
+            Wanted::Meters
+        } else {
+            Wanted::Nodes
+        }
     }
 }
 
@@ -218,84 +262,84 @@ fn what_of(fields: &Fields<'_>, kind: WhatKind) -> Result<What, WrongValue>
     }
 }
 
-// The number of a node of a line.
+// The number of a node of a line, or of a meter.
 #[tactic(auto, unfolding(crate::specs::Incidents::node_of))]
-fn node_of(meters: u32, value: &Value) -> Option<u32>
-    ensures { result ≡ node_of meters (view value.now) }
+fn node_of(of: NodesOf, value: &Value) -> Option<u32>
+    ensures { result ≡ node_of of (view value.now) }
 {
-    let node = number_up_to(u64::from(meters), value)?;
+    let most = u64::from(of.meters);
+    let node = if of.is_meter {
+        number_from_one_to(most, value)?
+    } else {
+        number_up_to(most, value)?
+    };
     Some(node as u32)
 }
 
-// Nodes, and those of more values.
+// The nodes of values.
 fn numbers_from(
-    mut nodes: NodeList,
-    meters: u32,
+    alloc: Global,
+    of: NodesOf,
     values: &[Value],
 ) -> Result<Option<NodeList>, AllocError>
-    ensures { IfOk result (λ read. read ≡ numbers_from meters nodes (map view values.now)) }
+    ensures { IfOk result (λ read. read ≡ numbers_from of [] (map view values.now)) }
 {
+    let mut nodes: Vec<u32> = Vec::new(alloc);
     for value in values {
-        let Some(node) = node_of(meters, value) else {
+        let Some(node) = node_of(of, value) else {
             return Ok(None);
         };
-        nodes.nodes.push(node)?;
+        nodes.push(node)?;
     }
-    Ok(Some(nodes))
+    Ok(Some(NodeList { nodes }))
 }
 
-// The node that `node` names, if there is one.
+// The node that a value is.
 #[tactic(auto, unfolding(crate::specs::Incidents::one_node))]
-fn one_node(
-    alloc: Global,
-    fields: &Fields<'_>,
-    meters: u32,
-) -> Result<Result<NodeList, WrongValue>, AllocError>
-    ensures { IfOk result (λ read. read ≡ one_node meters (table_of fields.now)) }
+fn one_node(alloc: Global, of: NodesOf, value: &Value) -> Result<Option<NodeList>, AllocError>
+    ensures { IfOk result (λ read. read ≡ one_node of (view value.now)) }
 {
-    let mut nodes = Vec::new(alloc);
-    let Some(value) = fields.get(Key::Node) else {
-        return Ok(Ok(NodeList { nodes }));
+    let Some(node) = node_of(of, value) else {
+        return Ok(None);
     };
-    match node_of(meters, value) {
-        Some(node) => {
-            nodes.push(node)?;
-            Ok(Ok(NodeList { nodes }))
-        }
-        None => Ok(Err(fields.wrong(Key::Node, Wanted::Nodes))),
-    }
+    let mut nodes: Vec<u32> = Vec::new(alloc);
+    nodes.push(node)?;
+    Ok(Some(NodeList { nodes }))
 }
 
-// Nodes, and those of a value, which has to be an array.
+// The nodes of a value, which has to be an array.
 #[tactic(auto, unfolding(crate::specs::Incidents::some_nodes), using(crate::proofs::Listing::listed_view))]
-fn some_nodes(nodes: NodeList, meters: u32, value: &Value) -> Result<Option<NodeList>, AllocError>
-    ensures { IfOk result (λ read. read ≡ some_nodes meters nodes (view value.now)) }
+fn some_nodes(alloc: Global, of: NodesOf, value: &Value) -> Result<Option<NodeList>, AllocError>
+    ensures { IfOk result (λ read. read ≡ some_nodes of (view value.now)) }
 {
     match value.as_array() {
-        Some(values) => numbers_from(nodes, meters, values.as_slice()),
+        Some(values) => numbers_from(alloc, of, values.as_slice()),
         None => Ok(None),
     }
 }
 
-// The nodes that `node` and `nodes` name.
+// The nodes that `node` or `nodes` names; not both may be there.
 #[tactic(auto, unfolding(crate::specs::Incidents::nodes_at))]
 fn nodes_at(
     alloc: Global,
     fields: &Fields<'_>,
-    meters: u32,
+    of: NodesOf,
 ) -> Result<Result<NodeList, WrongValue>, AllocError>
-    ensures { IfOk result (λ read. read ≡ nodes_at meters (table_of fields.now)) }
+    ensures { IfOk result (λ read. read ≡ nodes_at of (table_of fields.now)) }
 {
-    let nodes = match one_node(alloc, fields, meters)? {
-        Ok(nodes) => nodes,
-        Err(wrong) => return Ok(Err(wrong)),
-    };
-    match fields.get(Key::Nodes) {
-        None => Ok(Ok(nodes)),
-        Some(value) => {
-            let read = some_nodes(nodes, meters, value)?;
-            Ok(fields.checked(Key::Nodes, Wanted::Nodes, read))
+    match (fields.get(Key::Node), fields.get(Key::Nodes)) {
+        (Some(_), Some(_)) => Ok(Err(fields.wrong(Key::Node, Wanted::NoNode))),
+        (Some(value), None) => {
+            let read = one_node(alloc, of, value)?;
+            Ok(fields.checked(Key::Node, of.one(), read))
         }
+        (None, Some(value)) => {
+            let read = some_nodes(alloc, of, value)?;
+            Ok(fields.checked(Key::Nodes, of.list(), read))
+        }
+        (None, None) => Ok(Ok(NodeList {
+            nodes: Vec::new(alloc),
+        })),
     }
 }
 
@@ -309,13 +353,29 @@ fn time_at(fields: &Fields<'_>) -> Result<u64, WrongValue>
     }
 }
 
-// Whether two nodes are named where a link fails.
-fn are_enough(what: &What, nodes: &NodeList) -> bool
-    ensures { result ≡ are_enough what.now nodes.now }
+// What the nodes of a link that fails have to be, where these are not.
+fn link_wanted(place: &PlacePlan, nodes: &[u32]) -> Option<Wanted>
+    ensures { result ≡ link_wanted place.now nodes.now }
+{
+    match nodes {
+        [a, b] if *a != *b => {
+            if place.may_hear(*a, *b) {
+                None
+            } else {
+                Some(Wanted::Linked)
+            }
+        }
+        _ => Some(Wanted::TwoNodes),
+    }
+}
+
+// What the nodes have to be, where these are not.
+fn nodes_wanted(what: &What, place: &PlacePlan, nodes: &NodeList) -> Option<Wanted>
+    ensures { result ≡ nodes_wanted what.now place.now nodes.now }
 {
     match what {
-        What::LinkFails(_) => nodes.nodes.len() == 2,
-        _ => true,
+        What::LinkFails(_) => link_wanted(place, nodes.nodes()),
+        _ => None,
     }
 }
 
@@ -350,8 +410,9 @@ fn drawn_at(fields: &Fields<'_>, meters: u32) -> Result<u32, WrongValue>
     match fields.get(Key::Meters) {
         None => Ok(1),
         Some(value) => {
-            let wanted = Wanted::UpTo(u64::from(meters));
-            fields.checked(Key::Meters, wanted, node_of(meters, value))
+            let most = u64::from(meters);
+            let read = number_up_to(most, value);
+            Ok(fields.checked(Key::Meters, Wanted::UpTo(most), read)? as u32)
         }
     }
 }
@@ -365,19 +426,21 @@ impl Incident {
         alloc: Global,
         fields: &Fields<'_>,
         meters: u32,
+        place: &PlacePlan,
     ) -> Result<Result<Incident, WrongValue>, AllocError>
-        ensures { IfOk result (λ read. read ≡ incident_at meters (table_of fields.now)) }
+        ensures { IfOk result (λ read. read ≡ incident_at meters place.now (table_of fields.now)) }
     {
         let outline = match outline_at(fields, meters) {
             Ok(outline) => outline,
             Err(wrong) => return Ok(Err(wrong)),
         };
-        let nodes = match nodes_at(alloc, fields, meters)? {
+        let of = NodesOf::new(&outline.what, meters);
+        let nodes = match nodes_at(alloc, fields, of)? {
             Ok(nodes) => nodes,
             Err(wrong) => return Ok(Err(wrong)),
         };
-        if !are_enough(&outline.what, &nodes) {
-            return Ok(Err(fields.wrong(Key::Nodes, Wanted::TwoNodes)));
+        if let Some(wanted) = nodes_wanted(&outline.what, place, &nodes) {
+            return Ok(Err(fields.wrong(Key::Nodes, wanted)));
         }
         Ok(Ok(Incident {
             at: outline.at,

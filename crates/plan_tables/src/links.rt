@@ -2,7 +2,7 @@
 ghost use Rattle.std.specs.Prelude.{◌≡◌, IfOk, [], map};
 ghost use Rattle.toml.specs.View.{view};
 ghost use Rattle.plan_fields.specs.Members.{table_of};
-ghost use Rattle.plan_tables.specs.Links.{node_in, cost_part, measured_in, follows, links_from, farthest, with_meters, rows_in, matrix_at};
+ghost use Rattle.plan_tables.specs.Links.{node_in, cost_part, measured_in, follows, links_from, farthest, has_link, with_meters, rows_in, matrix_at};
 
 use line_place::{Costs, Link, MeasuredLink};
 use plan_fields::{Fields, Key, Wanted, WrongValue, chance_in, number_from_one_to, number_up_to};
@@ -39,6 +39,24 @@ impl MeasuredLinks {
     {
         farthest(self.links.as_slice())
     }
+
+    /// Whether there is a link from a node to another.
+    pub fn has(&self, from: u32, to: u32) -> bool
+        ensures { result ≡ has_link from to self.now }
+    {
+        has_link(self.links.as_slice(), from, to)
+    }
+}
+
+fn has_link(links: &[MeasuredLink], from: u32, to: u32) -> bool
+    ensures { result ≡ has_link from to links.now }
+{
+    for link in links {
+        if link.from == from && link.link.to == to {
+            return true;
+        }
+    }
+    false
 }
 
 // The highest number of a node in links.

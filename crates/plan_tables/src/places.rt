@@ -3,7 +3,7 @@ ghost use Rattle.std.specs.Prelude.{◌≡◌, ◌<◌, ◌≤◌, IfOk};
 ghost use Rattle.toml.specs.View.{view};
 ghost use Rattle.plan_fields.specs.Members.{table_of};
 ghost use Rattle.plan_tables.specs.Places.{cost_named, cost_in, cost_at, kind_named, kind_in, kind_at, middle_named, middle_in, middle_at, meters_at, reach_at};
-ghost use Rattle.plan_tables.specs.Places.{street_at, grid_at, tower_at, scatter_at, losses_at, place_at, meters_of, kind_of};
+ghost use Rattle.plan_tables.specs.Places.{street_at, grid_at, tower_at, scatter_at, losses_at, place_at, meters_of, kind_of, may_reach, may_hear};
 
 use crate::links::{MeasuredLinks, matrix_at};
 use line_place::{Costs, Field, Grid, Losses, Street, Tower};
@@ -33,6 +33,21 @@ pub enum Kind {
     Scattered(Field),
     /// Measured links, in ascending order of sender and hearer.
     Measured(MeasuredLinks),
+}
+
+impl Kind {
+    // Whether a frame of a node reaches another. Of scattered nodes it may, since their spots are drawn.
+    fn may_reach(&self, a: u32, b: u32) -> bool
+        ensures { result ≡ may_reach self.now a b }
+    {
+        match self {
+            Kind::InStreet(street) => street.far(a, b).is_some(),
+            Kind::InGrid(grid, _) => grid.far(a, b).is_some(),
+            Kind::InTower(tower, _) => tower.far(a, b).is_some(),
+            Kind::Scattered(_) => true,
+            Kind::Measured(links) => links.has(a, b),
+        }
+    }
 }
 
 /// The place of a description.
@@ -277,5 +292,11 @@ impl PlacePlan {
             Kind::Scattered(field) => u32::from(field.meters),
             Kind::Measured(links) => links.meters(),
         }
+    }
+    /// Whether one of two nodes may hear the other. Scattered nodes may, since their spots are drawn.
+    pub fn may_hear(&self, a: u32, b: u32) -> bool
+        ensures { result ≡ may_hear self.now a b }
+    {
+        self.kind.may_reach(a, b) || self.kind.may_reach(b, a)
     }
 }

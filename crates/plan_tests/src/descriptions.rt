@@ -86,8 +86,40 @@ fn has_the_place_of_a_fault(rt: HostRuntime) -> Result<(), Fail> {
             "line 3, column 1: the value of at has to be tables [[at]]",
         ),
         (
+            "[place]\nmeters = 3\nreach = 1\n[[at]]\nat = 1\nwhat = \"link\"\nnodes = [1, 3]\n",
+            "line 7, column 1: the value of nodes has to be a list of two nodes of which one hears the other",
+        ),
+        (
+            "[[at]]\nat = 1\nwhat = \"link\"\nnodes = [1, 1]\n",
+            "line 4, column 1: the value of nodes has to be a list of two different nodes",
+        ),
+        (
+            "[[at]]\nat = 1\nwhat = \"kick\"\nnode = 0\n",
+            "line 4, column 1: the value of node has to be a number from 1 to 60",
+        ),
+        (
+            "[[at]]\nat = 1\nwhat = \"kick\"\nnodes = [0, 1]\n",
+            "line 4, column 1: the value of nodes has to be a list of meters of the line",
+        ),
+        (
+            "[[at]]\nat = 1\nwhat = \"power\"\nnode = 1\nnodes = [2]\n",
+            "line 4, column 1: the value of node has to be left out where nodes are listed",
+        ),
+        (
+            "[air]\nmin_be = 9\nmax_be = 3\n",
+            "line 2, column 1: the value of min_be has to be a number up to 3",
+        ),
+        (
+            "title = \"a \\u0085 b\"\n",
+            "line 1, column 1: the value of title has to be one line of at most 200 octets, without control characters",
+        ),
+        (
+            "title = \"a \\u202E b\"\n",
+            "line 1, column 1: the value of title has to be one line of at most 200 octets, without control characters",
+        ),
+        (
             "title = \"a\\nb\"\n",
-            "line 1, column 1: the value of title has to be one line of at most 200 octets",
+            "line 1, column 1: the value of title has to be one line of at most 200 octets, without control characters",
         ),
     ] {
         match Plan::read(alloc, text) {
