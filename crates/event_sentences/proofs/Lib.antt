@@ -1,2 +1,3 @@
+pub mod TrueOnce
 pub mod SameRoutes
 pub mod InsertedAgain

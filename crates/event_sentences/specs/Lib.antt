@@ -1,4 +1,5 @@
 pub mod Asked
+pub mod Claims
 pub mod Counters
 pub mod Flights
 pub mod Heards
@@ -10,4 +11,5 @@ pub mod RouteEnds
 pub mod Scenes
 pub mod Taken
 pub mod Texts
+pub mod Truth
 pub mod Watches

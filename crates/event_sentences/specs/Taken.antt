@@ -9,8 +9,11 @@ use Rattle.frame_words.specs.declared.gist.Gist.{Gist}
 use Rattle.frame_words.specs.declared.gist.Gist.TheVariants as gists
 use Rattle.sentence_parts.specs.declared.part.Part.TheVariants.{Words, Number, Node, Place}
 use Rattle.sentence_parts.specs.Parts.{parts_text}
+use Rattle.event_sentences.specs.declared.claim.Deed.{Deed}
+use Rattle.event_sentences.specs.declared.claim.Deed.TheVariants as deeds
 use Rattle.event_sentences.specs.declared.flights.Meant.TheVariants as meants
 use Rattle.event_sentences.specs.declared.heard.Heard.{Heard}
+use Rattle.event_sentences.specs.Claims.{deed_text}
 use Rattle.event_sentences.specs.Flights.{is_request}
 use Rattle.event_sentences.specs.Joined.{further_text}
 use Rattle.event_sentences.specs.RouteEnds.{end_of}
@@ -19,19 +22,13 @@ use Rattle.event_sentences.specs.Watches.{Watched}
 
 -- # Datagrams
 
--- a datagram that is handed up, where its octets are not those of a send
-abbrev pub stray_up_text : ℕ → List ℕ
-stray_up_text node = parts_text (Node node ∷ Words (codes " hands up the datagram of no send of this run") ∷ [])
+-- a datagram that is handed up, by the number of its send, 0 where there is none
+abbrev pub sent_up : ℕ → Deed
+sent_up send = if send == 0 then deeds.HandsUpStray else deeds.HandsUp send
 
--- by the number of its send, 0 where there is none
-abbrev pub sent_up_text : ℕ → ℕ → List ℕ
-sent_up_text node send =
-    if send == 0 then stray_up_text node
-    else parts_text (Node node ∷ Words (codes " hands up the datagram of send ") ∷ Number send ∷ [])
-
-abbrev pub handed_up_text : ℕ → Option ℕ → List ℕ
-handed_up_text node None = stray_up_text node
-handed_up_text node (Some send) = sent_up_text node send
+abbrev pub handed_up : Option ℕ → Deed
+handed_up None = deeds.HandsUpStray
+handed_up (Some send) = sent_up send
 
 -- a piece that waits for the others
 abbrev pub holds_octets_text : ℕ → ℕ → ℕ → ℕ → List ℕ
@@ -160,7 +157,7 @@ carried_text flights detail s = carried_by (slice_get flights 0) detail s
 -- # Each answer
 
 abbrev pub taken_text : Answer → Heard → Scene → List ℕ
-taken_text answers.Up heard s = handed_up_text s.node s.told.up
+taken_text answers.Up heard s = deed_text s.node (handed_up s.told.up)
 taken_text answers.Held heard s = held_text s.node heard.more.detail
 taken_text answers.Relayed heard s = relayed_text heard.gist s
 taken_text answers.Answered heard s = answered_text heard.gist heard s

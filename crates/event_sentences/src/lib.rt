@@ -8,13 +8,18 @@
 //! A sentence is a function of its [`Moment`]: the event, the flights that it made, the frame that came, and what is kept of the node
 //! ([`Watch`]) and of the flights before it ([`Counters`]). `specs/Texts.antt` has that function. So no sentence speaks of what is not in
 //! the run.
+//!
+//! Of a datagram that is handed up more is proved: its sentence is that of a claim ([`Deed`]) which is true of the event of the run, and what is true
+//! of it is one thing (`specs/Truth.antt`). Its words stand in `src/claim.rt` alone.
 #![tactic(auto)]
 
 mod asked;
+mod claim;
 mod counters;
 mod flights;
 mod heard;
 mod joined;
+mod laws;
 mod moment;
 mod reasons;
 mod refused;
@@ -23,8 +28,10 @@ mod route_ends;
 mod taken;
 mod watch;
 
+pub use claim::Deed;
 pub use counters::Counters;
 pub use heard::{DrawnKey, Heard, heard_flight, heard_octets};
+pub use laws::{says_one, ups_are_true};
 pub use moment::Moment;
 pub use route_ends::RouteEnds;
 pub use watch::{Coming, Comings, Watch};

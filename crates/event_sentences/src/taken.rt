@@ -4,6 +4,7 @@ ghost use Rattle.std.specs.Option.{option_copied};
 ghost use Rattle.event_sentences.specs.Scenes.{scene_of};
 ghost use Rattle.event_sentences.specs.Taken as spec_taken;
 
+use crate::claim::{Deed, deed_said};
 use crate::flights::{Meant, is_request};
 use crate::heard::Heard;
 use crate::moment::Moment;
@@ -13,6 +14,25 @@ use line_events::Answer;
 use line_tale::TaleFlight;
 use sentence_parts::{node, number, place, words};
 use std::alloc::AllocError;
+
+// The datagram of a send by its number, 0 where it is of none.
+fn handed_up_of(send: u32) -> Deed
+    ensures { result ≡ spec_taken.sent_up send }
+{
+    if send == 0 {
+        return Deed::HandsUpStray;
+    }
+    Deed::HandsUp { send }
+}
+
+fn handed_up(up: Option<u32>) -> Deed
+    ensures { result ≡ spec_taken.handed_up up }
+{
+    match up {
+        Some(send) => handed_up_of(send),
+        None => Deed::HandsUpStray,
+    }
+}
 
 fn lost_of(gist: &Gist) -> u16
     ensures { result ≡ spec_taken.lost_of gist.now }
@@ -51,38 +71,6 @@ fn way_words(detail: Detail) -> &'static str
 }
 
 impl<'a> Moment<'a> {
-    fn stray_up(&self) -> Result<String, AllocError>
-        ensures { IfOk result (λ text. string_bytes text ≡ spec_taken.stray_up_text self.now.node) }
-    {
-        self.say(&[
-            node(self.node),
-            words(" hands up the datagram of no send of this run"),
-        ])
-    }
-
-    // The datagram of a send by its number, 0 where it is of none.
-    fn handed_up_of(&self, send: u32) -> Result<String, AllocError>
-        ensures { IfOk result (λ text. string_bytes text ≡ spec_taken.sent_up_text self.now.node send) }
-    {
-        if send == 0 {
-            return self.stray_up();
-        }
-        self.say(&[
-            node(self.node),
-            words(" hands up the datagram of send "),
-            number(send as usize),
-        ])
-    }
-
-    fn handed_up(&self) -> Result<String, AllocError>
-        ensures { IfOk result (λ text. string_bytes text ≡ spec_taken.handed_up_text self.now.node self.now.told.up) }
-    {
-        match self.told.up {
-            Some(send) => self.handed_up_of(send),
-            None => self.stray_up(),
-        }
-    }
-
     fn holds_octets(&self, start: u32, end: u32, size: u32) -> Result<String, AllocError>
         ensures { IfOk result (λ text. string_bytes text ≡ spec_taken.holds_octets_text self.now.node start end size) }
     {
@@ -326,7 +314,7 @@ impl<'a> Moment<'a> {
         ensures { IfOk result (λ text. string_bytes text ≡ spec_taken.taken_text self.now.told.answer heard.now (scene_of self.now)) }
     {
         match self.told.answer {
-            Answer::Up => self.handed_up(),
+            Answer::Up => deed_said(self.alloc, self.node, handed_up(self.told.up)),
             Answer::Held => self.held(heard.more.detail),
             Answer::Relayed => self.relayed(&heard.gist),
             Answer::Answered => self.answered(heard),

@@ -180,7 +180,7 @@ fn push_octets(text: &mut String, alloc: Global, octets: &[u8]) -> Result<(), Al
     Ok(())
 }
 
-fn push_part(text: &mut String, alloc: Global, part: &Part<'_>) -> Result<(), AllocError>
+pub(crate) fn push_part(text: &mut String, alloc: Global, part: &Part<'_>) -> Result<(), AllocError>
     ensures { OnOk result (string_bytes text.new ≡ string_bytes text.old ++ spec_parts.part_text part.now) }
 {
     match part {
