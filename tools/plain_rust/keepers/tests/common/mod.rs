@@ -1,0 +1,6 @@
+//! What the tests of the keepers share.
+#![allow(dead_code)]
+pub mod chance;
+#[cfg(feature = "sqlite")]
+pub mod disk;
+pub mod judge;
