@@ -47,9 +47,9 @@ class Part:
 
     def end(self):
         spent = time.time() - self.begun
-        row = re.search(rf"^\| `{self.name}` \| ([\d,]+) \|", open(f"{TOP}/CONTRIBUTING.md", encoding="utf-8").read(), re.M)
+        row = re.search(rf"^\| `{self.name}` \| ([\d,]+) \|", open(f"{TOP}/docs/MEASUREMENTS.md", encoding="utf-8").read(), re.M)
         before = int(row[1].replace(",", "")) if row else self.cases
-        note = "" if before == self.cases else f" CONTRIBUTING.md has {before:,} cases"
+        note = "" if before == self.cases else f" docs/MEASUREMENTS.md has {before:,} cases"
         print(f"| `{self.name}` | {self.cases:,} | {self.found} | {spent:.0f} s |{note}", flush=True)
         return self.found == 0
 

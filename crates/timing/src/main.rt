@@ -1,7 +1,7 @@
 //! Runs a part of a node as often as the command line says, so that its instructions can be counted from outside.
 //!
 //! `timing PART COUNT` runs `ciphers`, `readers`, `station`, `book` or `pool`, or `all` of them, and prints what came of it, which is the same
-//! at each run. Other words write the usage line, with status 2. `CONTRIBUTING.md` has the commands that count, and the last counts.
+//! at each run. Other words write the usage line, with status 2. `docs/MEASUREMENTS.md` has the commands that count, and the last counts.
 #![tactic(auto)]
 
 mod book;
