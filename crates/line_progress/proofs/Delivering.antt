@@ -9,7 +9,6 @@ use Rattle.plc_base.specs.Grant.{Granted, key_at}
 use Rattle.frame_counters.specs.PeerMarks.{room_for}
 use Rattle.mesh_header.specs.declared.unit.Mesh.{Mesh}
 use Rattle.mesh_header.specs.declared.unit.Unit.{Unit as MeshUnit}
-use Rattle.mesh_header.specs.declared.unit.Unit.TheVariants as units
 use Rattle.mesh_header.specs.Reading.{unit_in}
 use Rattle.node_rules.specs.Accepted.{Accepted}
 use Rattle.node_rules.specs.declared.heard.Heard.{Heard}
@@ -38,11 +37,14 @@ use Rattle.line_rules.specs.Worlds.{World, Flight, Trace, node_at, flight_at, is
 use Rattle.line_progress.proofs.Acting.{acted, acts_whole}
 use Rattle.line_progress.proofs.Sealing.{IsSealable, is_no_discovery, unit_whole}
 use Rattle.line_progress.proofs.Accepting.{accepts, got_of}
+use Rattle.line_progress.proofs.Contents.{Content, unit_with, carries_no_message, carries_no_command}
 use Rattle.line_progress.proofs.Hearing.{Hears, Does, hears_so}
 
--- What a node did about a frame is in the world and in the report.
-pub record Goes (ciphers : Ciphers) (w : World) (number : ℕ) (answer : Reception) (frames : List Sent) (r : World × Trace) : Type 0 where
+-- What a node did about a frame is in the world and in the report, and the node holds this.
+pub record Goes (ciphers : Ciphers) (w : World) (number : ℕ) (answer : Reception) (frames : List Sent) (left : Memory) (r : World × Trace) : Type 0 where
   pub node : Node
+  pub memory : node.memory ≡ Some left
+  pub spared : node.store.cut ≡ None
   pub nodes : r.0.nodes ≡ slice_set w.nodes number node
   pub flights : r.0.flights ≡ w.flights ++ map (λ (frame : Sent). flight_by number (spelled ciphers frame)) frames
   pub events : r.0.events ≡ w.events + 1
@@ -50,11 +52,13 @@ pub record Goes (ciphers : Ciphers) (w : World) (number : ℕ) (answer : Recepti
   pub up_is : r.1.happenings.up ≡ handed_by number answer.up
 
 module _ (ciphers : Ciphers) (w : World) (number : ℕ) where
-  received_goes : (forged : Bool) (d : NodeStep Reception) (answer : Reception) (frames : List Sent) → Does d answer frames
-      → Goes ciphers w number answer frames (received ciphers w number forged d)
+  received_goes : (forged : Bool) (d : NodeStep Reception) (answer : Reception) (frames : List Sent) (left : Memory) → Does d answer frames left
+      → Goes ciphers w number answer frames left (received ciphers w number forged d)
   unfolding world_after
-  received_goes forged d answer frames did = record {
+  received_goes forged d answer frames left did = record {
     node = d.node;
+    memory = did.memory_is;
+    spared = did.spared_is;
     nodes = refl;
     flights = ap (λ (fs : List Sent). w.flights ++ map (λ (frame : Sent). flight_by number (spelled ciphers frame)) fs) did.frames_is;
     events = refl;
@@ -67,13 +71,15 @@ module _ (ciphers : Ciphers) (w : World) (number : ℕ) where
   none_due from false = refl
 
   -- checks of neighbours add nothing to it
-  checked_goes : (got : Accepted) (h : NodeStep Reception) (answer : Reception) (frames : List Sent) (r : World × Trace)
+  checked_goes : (got : Accepted) (h : NodeStep Reception) (answer : Reception) (frames : List Sent) (left : Memory) (r : World × Trace)
       → due got.path (message_of got) h.answer.answer ≡ None
-      → Goes ciphers w number answer frames r → Goes ciphers w number answer frames (checked ciphers w number got h r)
-  checked_goes got h answer frames r none goes =
-      subst (λ (o : Option Reply). Goes ciphers w number answer frames
+      → Goes ciphers w number answer frames left r → Goes ciphers w number answer frames left (checked ciphers w number got h r)
+  checked_goes got h answer frames left r none goes =
+      subst (λ (o : Option Reply). Goes ciphers w number answer frames left
       (acknowledged_if ciphers w number h.node o (with_check w number (reply_among h.frames) r))) (sym none) (record {
         node = goes.node;
+        memory = goes.memory;
+        spared = goes.spared;
         nodes = goes.nodes;
         flights = goes.flights;
         events = goes.events;
@@ -83,7 +89,7 @@ module _ (ciphers : Ciphers) (w : World) (number : ℕ) where
 
 module _ (ciphers : Ciphers) (opens : OpensWhatItSeals ciphers) (w : World) (number cost : ℕ) (x : Node) (m : Memory) (g : Granted)
     (runs : x.memory ≡ Some m) (spared : x.store.cut ≡ None) (ring : m.station.ring ≡ Some g)
-    (u : SealedUnit) (fits : IsSealable u) (mesh : Mesh) (octets : List ℕ) (unit_is : u.unit ≡ units.Whole mesh octets)
+    (u : SealedUnit) (fits : IsSealable u) (mesh : Mesh) (content : Content) (unit_is : u.unit ≡ unit_with mesh content)
     (to : g.address ≡ u.to) (one : u.to ≢ to_all) (apart : g.address ≢ u.from) (key : key_at g u.index ≡ Some u.key)
     (room : room_for m.station.marks u.from u.counter ≡ Ok tt) where
   -- the node that has accepted the frame
@@ -94,14 +100,14 @@ module _ (ciphers : Ciphers) (opens : OpensWhatItSeals ciphers) (w : World) (num
   abbrev pub marked : StationMemory
   marked = (marking m.station u.from u.counter (got_of u)).memory
 
-  pub reads : unit_in (got_of u).payload ≡ Some (units.Whole mesh octets)
+  pub reads : unit_in (got_of u).payload ≡ Some (unit_with mesh content)
   reads = unit_whole ciphers opens u fits ∙ ap (λ (v : MeshUnit). Some v) unit_is
 
   no_message : message_of (got_of u) ≡ None
-  no_message = ap (option_and_then route_message) reads
+  no_message = ap (option_and_then route_message) reads ∙ carries_no_message mesh content
 
   no_command : command_of (got_of u) ≡ None
-  no_command = ap (command_with u.from false) reads
+  no_command = ap (command_with u.from false) reads ∙ carries_no_command u.from mesh content
 
   none_is_due : (answer : Answer) → due (got_of u).path (message_of (got_of u)) answer ≡ None
   none_is_due answer =
@@ -114,21 +120,23 @@ module _ (ciphers : Ciphers) (opens : OpensWhatItSeals ciphers) (w : World) (num
   abbrev pub note_is : ℕ
   note_is = note_by w octets_of (got_of u).path
 
-  module _ (a : Heard) (sent : List Sent) (heard : Hears (hear marked (got_of u) cost note_is w.clock) a sent) (none : unread (Ok a) ≡ None) where
-    heard_goes : Goes ciphers w number (station_reception a) sent (hearing_outcome ciphers w number taken.node octets_of (got_of u) cost)
+  module _ (a : Heard) (sent : List Sent) (left : StationMemory)
+      (heard : Hears (hear marked (got_of u) cost note_is w.clock) a sent left) (none : unread (Ok a) ≡ None) where
+    heard_goes : Goes ciphers w number (station_reception a) sent (with_station left m) (hearing_outcome ciphers w number taken.node octets_of (got_of u) cost)
     unfolding marking
     heard_goes =
         let d : NodeStep Reception = hearing_step ciphers taken.node (got_of u) cost note_is w.clock in
         received_goes ciphers w number (forged_by w octets_of (got_of u).path || list_any (is_forged_tag w.made) d.opened) d (station_reception a) sent
-        (hears_so ciphers taken.node (with_station marked m) refl refl (got_of u) cost note_is w.clock a sent heard none)
+        (with_station left m)
+        (hears_so ciphers taken.node (with_station marked m) refl refl (got_of u) cost note_is w.clock a sent left heard none)
 
-    by_checks : (b : Bool) → Goes ciphers w number (station_reception a) sent
+    by_checks : (b : Bool) → Goes ciphers w number (station_reception a) sent (with_station left m)
         (if b then checked ciphers w number (got_of u) (hearing_step ciphers taken.node (got_of u) cost note_is w.clock)
         (hearing_outcome ciphers w number taken.node octets_of (got_of u) cost)
         else hearing_outcome ciphers w number taken.node octets_of (got_of u) cost)
     by_checks true =
         checked_goes ciphers w number (got_of u) (hearing_step ciphers taken.node (got_of u) cost note_is w.clock) (station_reception a) sent
-        (hearing_outcome ciphers w number taken.node octets_of (got_of u) cost)
+        (with_station left m) (hearing_outcome ciphers w number taken.node octets_of (got_of u) cost)
         (none_is_due (hearing_step ciphers taken.node (got_of u) cost note_is w.clock).answer.answer) heard_goes
     by_checks false = heard_goes
 
@@ -138,7 +146,7 @@ module _ (ciphers : Ciphers) (opens : OpensWhatItSeals ciphers) (w : World) (num
         ∙ ap (λ p. acted x (of_station m p)) (accepts ciphers opens u fits m.station x.eui g ring to one apart key room)
 
     -- what the node then does is in the world and in the report
-    pub frame_comes : Goes ciphers w number (station_reception a) sent (comes ciphers w number x octets_of cost)
+    pub frame_comes : Goes ciphers w number (station_reception a) sent (with_station left m) (comes ciphers w number x octets_of cost)
     unfolding comes marking
     frame_comes =
         let y : Node = taken.node in
@@ -151,7 +159,7 @@ module _ (ciphers : Ciphers) (opens : OpensWhatItSeals ciphers) (w : World) (num
         ∙ (λ i. if dropped i then unbelieved ciphers w number y octets_of (got_of u)
         else hearing_outcome_by ciphers w number y octets_of (got_of u) cost (command_of (got_of u)))
         ∙ ap (hearing_outcome_by ciphers w number y octets_of (got_of u) cost) no_command in
-        subst (λ r. Goes ciphers w number (station_reception a) sent r) (sym path) (by_checks w.checks_on)
+        subst (λ r. Goes ciphers w number (station_reception a) sent (with_station left m) r) (sym path) (by_checks w.checks_on)
 
 -- # Steps
 

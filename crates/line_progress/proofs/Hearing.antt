@@ -1,12 +1,12 @@
--- What a node makes of a datagram that goes whole: it hands it up, or sends it on.
+-- What a node makes of a unit of a datagram: it takes it up, or sends it on.
 use Rattle.std.proofs.Common.{◌≡◌, ◌≢◌, ℕ, ◌≤◌, false, List, [], ◌∷◌, Some, None, Ok, Err, refl, sym, ap, subst, ◌∙◌}
-use Rattle.std.specs.Prelude.{if◌then◌else◌, nat_lt}
+use Rattle.std.specs.Prelude.{if◌then◌else◌, nat_lt, ◌==◌}
 use Rattle.std.specs.Option.{option_map, option_map_or}
 use Rattle.std.proofs.lemmas.Bool.{eq-eqb, ne_eqb, le-ltb}
 use Rattle.plc_base.specs.declared.key.Key.{Key}
 use Rattle.plc_base.specs.Grant.{Granted}
+use Rattle.frame_counters.specs.SendCounter as counters
 use Rattle.mesh_header.specs.declared.unit.Mesh.{Mesh}
-use Rattle.mesh_header.specs.declared.unit.Unit.TheVariants as units
 use Rattle.mesh_header.specs.Reading.{unit_in}
 use Rattle.node_rules.specs.Accepted.{Accepted}
 use Rattle.node_rules.specs.declared.heard.Path.TheVariants as paths
@@ -17,42 +17,47 @@ use Rattle.node_rules.specs.Ciphers.{Ciphers}
 use Rattle.node_rules.specs.Coordinators as coordinator_rules
 use Rattle.node_rules.specs.Drafts.{Draft, alone, choose, counters_left, empty_draft, goes, refused, sealed, sealed_by, sealed_units, sealing, sealing_key}
 use Rattle.node_rules.specs.Frames.{Sent, Sealed}
-use Rattle.node_rules.specs.Hearing.{Hearing, drop_it, dropped, forward, forward_by, forwards, hands_up, hear, hear_over_mesh, hear_sealed, hear_unit_in}
+use Rattle.node_rules.specs.Hearing.{Hearing, drop_it, dropped, forward, forward_by, forwards, hear, hear_sealed, hear_unit_in}
 use Rattle.node_rules.specs.Hearing.{hop_less, is_spent}
 use Rattle.node_rules.specs.Memory.{StationMemory, Memory, Node, Role, Coordinator, Meter, next_hop}
 use Rattle.node_rules.specs.MemoryDrafts.{unread, with_station}
 use Rattle.node_rules.specs.Meters as meters
 use Rattle.node_rules.specs.NodeSteps.{NodeStep}
-use Rattle.node_rules.specs.Plans.{resting, within}
+use Rattle.node_rules.specs.Plans.{within}
 use Rattle.line_rules.specs.Answers.{Reception, station_reception, meter_reception, coordinator_reception}
 use Rattle.line_rules.specs.Steps.{hearing_step, identity}
 use Rattle.line_progress.proofs.Acting.{acted, acts_whole}
+use Rattle.line_progress.proofs.Contents.{Content, unit_with, taken_up, is_heard}
 
--- What a station makes of a frame: this answer, and these frames.
-pub record Hears (p : Hearing) (answer : Heard) (frames : List Sent) : Type 0 where
+-- What a station makes of a frame: this answer, these frames, and this memory.
+pub record Hears (p : Hearing) (answer : Heard) (frames : List Sent) (left : StationMemory) : Type 0 where
   pub answer_is : p.answer ≡ Ok answer
   pub frames_is : p.frames ≡ frames
+  pub memory_is : p.memory ≡ left
 
-module _ (l : StationMemory) (g : Granted) (ring : l.ring ≡ Some g) (from : ℕ) (key : Key) (mesh : Mesh) (octets payload : List ℕ)
-    (unit : unit_in payload ≡ Some (units.Whole mesh octets)) (cost note now : ℕ) where
+-- a counter is taken
+abbrev pub sent_one : StationMemory → StationMemory
+sent_one l = record l { counter = counters.reserved l.counter 1 }
+
+module _ (l : StationMemory) (g : Granted) (ring : l.ring ≡ Some g) (from : ℕ) (key : Key) (mesh : Mesh) (content : Content) (payload : List ℕ)
+    (unit : unit_in payload ≡ Some (unit_with mesh content)) (cost note now : ℕ) where
   abbrev got : Accepted
   got = record { path = paths.Sealed from false key; payload = payload }
 
-  over : hear l got cost note now ≡ hear_over_mesh l g.address (units.Whole mesh octets) note now
-  unfolding choose
+  abbrev forwarded : Hearing
+  forwarded = forward l g.address mesh (unit_with (hop_less mesh) content) note
+
+  over : hear l got cost note now ≡ choose (mesh.to == g.address) (taken_up l content mesh.origin note now) forwarded
   over =
       (λ i. hear_unit_in l got.path (unit i) cost note now)
-      ∙ (λ i. option_map_or (λ own. hear_sealed l own from false (units.Whole mesh octets) cost note now)
+      ∙ (λ i. option_map_or (λ own. hear_sealed l own from false (unit_with mesh content) cost note now)
       (option_map (λ (g : Granted). g.address) (ring i)) (drop_it l drops.BadUnit))
+      ∙ is_heard l g.address from mesh content cost note now
 
-  -- at its target it is handed up
-  pub is_handed_up : mesh.to ≡ g.address → Hears (hear l got cost note now) (heard.Up mesh.origin note octets) []
-  unfolding choose resting
-  is_handed_up to =
-      let path : hear l got cost note now ≡ hands_up l mesh.origin note octets = over
-      ∙ (λ i. choose (eq-eqb mesh.to g.address to i) (hands_up l mesh.origin note octets)
-      (forward l g.address mesh (units.Whole (hop_less mesh) octets) note)) in
-      subst (λ p. Hears p (heard.Up mesh.origin note octets) []) (sym path) (record { answer_is = refl; frames_is = refl })
+  -- at its target it is taken up
+  pub is_taken_up : mesh.to ≡ g.address → hear l got cost note now ≡ taken_up l content mesh.origin note now
+  unfolding choose
+  is_taken_up to = over ∙ (λ i. choose (eq-eqb mesh.to g.address to i) (taken_up l content mesh.origin note now) forwarded)
 
   -- at another node it goes on by the next hop
   pub goes_on : mesh.to ≢ g.address → (hop : ℕ) → next_hop l mesh.to ≡ Some hop → 2 ≤ mesh.hops → nat_lt (counters_left l) 1 ≡ false
@@ -64,16 +69,16 @@ module _ (l : StationMemory) (g : Granted) (ring : l.ring ≡ Some g) (from : �
         counter = l.counter.next;
         index = g.active;
         key = k;
-        unit = units.Whole (hop_less mesh) octets;
+        unit = unit_with (hop_less mesh) content;
         note = note;
-      }) ∷ [])
+      }) ∷ []) (sent_one l)
   unfolding choose sealed goes empty_draft
   goes_on away hop route left counter k keyed =
-      let unit_on = units.Whole (hop_less mesh) octets in
+      let unit_on = unit_with (hop_less mesh) content in
       let unspent : is_spent mesh ≡ false = not_below mesh.hops left in
       let d : Draft StationMemory = goes hop unit_on note (empty_draft l) in
       let path : hear l got cost note now ≡ sealing alone dropped d heard.Relayed = over
-      ∙ (λ i. choose (ne_eqb mesh.to g.address away i) (hands_up l mesh.origin note octets) (forward l g.address mesh unit_on note))
+      ∙ (λ i. choose (ne_eqb mesh.to g.address away i) (taken_up l content mesh.origin note now) forwarded)
       ∙ (λ i. forward_by l g.address mesh unit_on note (route i))
       ∙ (λ i. choose (unspent i) (drop_it l drops.HopsSpent) (forwards l hop unit_on note))
       ∙ (λ i. if counter i then refused dropped l dropped.spent else sealing alone dropped d heard.Relayed) in
@@ -86,8 +91,9 @@ module _ (l : StationMemory) (g : Granted) (ring : l.ring ≡ Some g) (from : �
         key = k;
         unit = unit_on;
         note = note;
-      }) ∷ [])) (sym path) (record {
+      }) ∷ []) (sent_one l)) (sym path) (record {
         answer_is = refl;
+        memory_is = refl;
         frames_is =
             (λ i. sealed_by (ring i) l.counter.next d.units) ∙ (λ i. option_map_or (λ key. sealed_units g key l.counter.next d.units) (keyed i) []);
       })
@@ -97,14 +103,16 @@ module _ (l : StationMemory) (g : Granted) (ring : l.ring ≡ Some g) (from : �
 
 -- # Nodes
 
--- What a node did about a frame: this is said of it, and these frames go out.
-pub record Does (d : NodeStep Reception) (answer : Reception) (frames : List Sent) : Type 0 where
+-- What a node did about a frame: this is said of it, these frames go out, and it holds this, with no loss of power to come.
+pub record Does (d : NodeStep Reception) (answer : Reception) (frames : List Sent) (left : Memory) : Type 0 where
   pub answer_is : d.answer ≡ answer
   pub frames_is : d.frames ≡ frames
+  pub memory_is : d.node.memory ≡ Some left
+  pub spared_is : d.node.store.cut ≡ None
 
 module _ (ciphers : Ciphers) (x : Node) (m : Memory) (runs : x.memory ≡ Some m) (spared : x.store.cut ≡ None) (got : Accepted) (cost note now : ℕ)
-    (a : Heard) (frames : List Sent) (h : Hears (hear m.station got cost note now) a frames) (none : unread (Ok a) ≡ None) where
-  as_meter : (psk : Key) → Does (hearing_step ciphers (record x { role = Meter psk }) got cost note now) (station_reception a) frames
+    (a : Heard) (frames : List Sent) (left : StationMemory) (h : Hears (hear m.station got cost note now) a frames left) (none : unread (Ok a) ≡ None) where
+  as_meter : (psk : Key) → Does (hearing_step ciphers (record x { role = Meter psk }) got cost note now) (station_reception a) frames (with_station left m)
   as_meter psk =
       let p = hear m.station got cost note now in
       let own = identity ciphers x psk in
@@ -115,9 +123,11 @@ module _ (ciphers : Ciphers) (x : Node) (m : Memory) (runs : x.memory ≡ Some m
       record {
         answer_is = ap (λ (d : NodeStep _). meter_reception d.answer) did ∙ ap (λ r. meter_reception (meters.heard_by_station r)) h.answer_is;
         frames_is = ap (λ (d : NodeStep _). d.frames) did ∙ h.frames_is;
+        memory_is = ap (λ (d : NodeStep _). d.node.memory) did ∙ ap (λ (l : StationMemory). Some (with_station l m)) h.memory_is;
+        spared_is = ap (λ (d : NodeStep _). d.node.store.cut) did;
       }
 
-  as_coordinator : Does (hearing_step ciphers (record x { role = Coordinator }) got cost note now) (station_reception a) frames
+  as_coordinator : Does (hearing_step ciphers (record x { role = Coordinator }) got cost note now) (station_reception a) frames (with_station left m)
   as_coordinator =
       let p = hear m.station got cost note now in
       let own : coordinator_rules.CoordinatorIdentity = record { eui = x.eui; ciphers = ciphers } in
@@ -129,13 +139,17 @@ module _ (ciphers : Ciphers) (x : Node) (m : Memory) (runs : x.memory ≡ Some m
         answer_is =
             ap (λ (d : NodeStep _). coordinator_reception d.answer) did ∙ ap (λ r. coordinator_reception (coordinator_rules.heard_by_station r)) h.answer_is;
         frames_is = ap (λ (d : NodeStep _). d.frames) did ∙ h.frames_is;
+        memory_is = ap (λ (d : NodeStep _). d.node.memory) did ∙ ap (λ (l : StationMemory). Some (with_station l m)) h.memory_is;
+        spared_is = ap (λ (d : NodeStep _). d.node.store.cut) did;
       }
 
-  pub hears_so : Does (hearing_step ciphers x got cost note now) (station_reception a) frames
+  pub hears_so : Does (hearing_step ciphers x got cost note now) (station_reception a) frames (with_station left m)
   hears_so = by_role x.role refl
     where
-      by_role : (role : Role) → x.role ≡ role → Does (hearing_step ciphers x got cost note now) (station_reception a) frames
+      by_role : (role : Role) → x.role ≡ role → Does (hearing_step ciphers x got cost note now) (station_reception a) frames (with_station left m)
       by_role Coordinator e =
-          subst (λ r. Does (hearing_step ciphers (record x { role = r }) got cost note now) (station_reception a) frames) (sym e) as_coordinator
+          subst (λ r. Does (hearing_step ciphers (record x { role = r }) got cost note now) (station_reception a) frames (with_station left m)) (sym e)
+          as_coordinator
       by_role (Meter psk) e =
-          subst (λ r. Does (hearing_step ciphers (record x { role = r }) got cost note now) (station_reception a) frames) (sym e) (as_meter psk)
+          subst (λ r. Does (hearing_step ciphers (record x { role = r }) got cost note now) (station_reception a) frames (with_station left m)) (sym e)
+          (as_meter psk)

@@ -1,10 +1,13 @@
 pub mod Acting
 pub mod Sealing
 pub mod Accepting
+pub mod NextCounter
+pub mod Contents
 pub mod Hearing
 pub mod Delivering
 pub mod Sending
 pub mod Routes
+pub mod Arriving
 pub mod UnitFates
 pub mod SendFates
 pub mod PieceFates

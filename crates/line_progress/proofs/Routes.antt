@@ -1,49 +1,52 @@
--- A datagram on its way along a route is brought to its end: by induction on the nodes before it.
-use Rattle.std.proofs.Common.{◌≡◌, ◌≢◌, ℕ, ◌+◌, ◌-◌, ◌<◌, ◌≤◌, true, false, List, [], ◌∷◌, ◌++◌, length, Option, Some, None, Ok}
+-- One unit of a datagram goes along a route: by induction on the nodes before it.
+use Rattle.std.proofs.Common.{◌≡◌, ◌≢◌, ℕ, zero, suc, ◌+◌, ◌-◌, ◌<◌, ◌≤◌, false, List, [], ◌∷◌, ◌++◌, length, Option, Some, None, Ok}
 use Rattle.std.proofs.Common.{refl, sym, ap, subst, ◌∙◌, arith}
 use Rattle.std.specs.Prelude.{if◌then◌else◌, nat_lt, slice_get, slice_set, ◌==◌}
 use Rattle.std.specs.Option.{option_and_then}
-use Rattle.std.proofs.lemmas.Bool.{ne_eqb, lt-ltb, ltb-false}
+use Rattle.std.proofs.lemmas.Bool.{ne_eqb, le-ltb, lt-ltb, ltb-false}
 use Rattle.std.proofs.lemmas.List.{length-append}
-use Rattle.plc_base.specs.Grant.{Granted, key_at}
-use Rattle.frame_counters.specs.PeerMarks.{room_for}
-use Rattle.store_tables.proofs.SlotTables.{slice_get-push, slice_get-set_other}
+use Rattle.plc_base.specs.Addresses.{IsAddress}
+use Rattle.plc_base.specs.Grant.{Granted}
+use Rattle.frame_counters.specs.PeerMarks.{room_for, kept_after}
+use Rattle.store_tables.proofs.SlotTables.{slice_get-push, slice_get-set, slice_get-set_other}
 use Rattle.mesh_header.specs.declared.unit.Mesh.{Mesh}
-use Rattle.mesh_header.specs.declared.unit.Unit.TheVariants as units
+use Rattle.mesh_header.specs.declared.unit.Unit.{Unit as MeshUnit}
+use Rattle.mesh_header.specs.Grammar.{IsMesh}
 use Rattle.mesh_header.specs.Reading.{unit_in}
-use Rattle.mesh_header.specs.Grammar.{IsUnit, spelling, spelled_length, header_length}
-use Rattle.mesh_header.proofs.Readings.{length_read}
 use Rattle.routing_set.specs.RoutingSet as routing
-use Rattle.fragment_buffers.specs.Loads.{own_mesh}
+use Rattle.fragment_buffers.specs.Reassembly.{Reassembly}
+use Rattle.node_rules.specs.declared.heard.Heard.{Heard}
 use Rattle.node_rules.specs.declared.heard.Heard.TheVariants as heard
 use Rattle.node_rules.specs.Accepting.{marking}
 use Rattle.node_rules.specs.Ciphers.{Ciphers, OpensWhatItSeals}
 use Rattle.node_rules.specs.Drafts.{counters_left}
 use Rattle.node_rules.specs.Frames.{SealedUnit, Sealed, spelled, to_all}
-use Rattle.node_rules.specs.Hearing.{hop_less}
+use Rattle.node_rules.specs.Hearing.{hear, hop_less}
 use Rattle.node_rules.specs.Memory.{StationMemory, Memory, Node, next_hop, node_address, address_of}
+use Rattle.node_rules.specs.MemoryDrafts.{unread, with_station}
 use Rattle.line_events.specs.declared.event.Answer.{Answer}
 use Rattle.line_events.specs.declared.event.Answer.TheVariants as answers
 use Rattle.line_events.specs.declared.event.Event.{Event}
 use Rattle.line_events.specs.declared.event.Event.TheVariants as events
 use Rattle.line_events.specs.declared.event.TheConstants.{MAX_EVENTS}
-use Rattle.line_rules.specs.Answers.{station_reception}
+use Rattle.line_events.specs.declared.happenings.Handed.{Handed}
+use Rattle.line_rules.specs.Answers.{Up, station_reception}
 use Rattle.line_rules.specs.Further.{comes, line_step}
 use Rattle.line_rules.specs.Runs.{Entry, entries_of, one_of, run, ups}
-use Rattle.line_rules.specs.Steps.{flight_by, sends_by}
+use Rattle.line_rules.specs.Steps.{flight_by, handed_by}
 use Rattle.line_rules.specs.Worlds.{World, Flight, Trace, node_at, flight_at}
-use Rattle.line_progress.specs.Arrival.{Stop, IsReady, HasLink, HasRoute, AreReady, IsNoneOf, IsStraight, last_of, deliveries, delivery_answers, IsBrought}
-use Rattle.line_progress.specs.Arrival.{DatagramsArrive}
+use Rattle.line_progress.specs.Arrival.{Stop, IsReady, HasLink, HasRoute, AreReady, IsNoneOf, IsStraight, last_of, deliveries, delivery_answers, answers_of}
 use Rattle.line_progress.proofs.Sealing.{IsSealable}
-use Rattle.line_progress.proofs.Hearing.{is_handed_up, goes_on}
 use Rattle.line_progress.proofs.Accepting.{got_of}
+use Rattle.line_progress.proofs.NextCounter.{admits_next}
+use Rattle.line_progress.proofs.Contents.{Content, IsContent, unit_with, taken_up}
+use Rattle.line_progress.proofs.Hearing.{Hears, goes_on, is_taken_up, sent_one}
 use Rattle.line_progress.proofs.Delivering.{Goes, delivered, frame_comes, marked, note_is, reads}
-use Rattle.line_progress.proofs.Sending.{it_leaves, sends_it, steps_so}
 
 -- # Runs
 
 -- an event that is taken is the first entry of a run
-runs_on : (ciphers : Ciphers) (w : World) (event : Event) (more : List Event) (r : World × Trace) → w.events < MAX_EVENTS
+pub runs_on : (ciphers : Ciphers) (w : World) (event : Event) (more : List Event) (r : World × Trace) → w.events < MAX_EVENTS
     → line_step ciphers w event ≡ Ok r
     → run ciphers w (event ∷ more)
     ≡ record { number = w.events + 1; event = event; trace = r.1; after = r.0 } ∷ run ciphers r.0 more
@@ -52,40 +55,52 @@ runs_on ciphers w event more r room is =
     then entries_of w event (line_step ciphers w event) (λ next. run ciphers next more) else [])
     ∙ (λ i. entries_of w event (is i) (λ next. run ciphers next more))
 
--- an entry in front of what is brought
-brought_after : (x : Entry) (word : Answer) (expected : List Answer) (target : ℕ) (datagram : List ℕ) (entries : List Entry)
-    → x.trace.happenings.answer ≡ word → x.trace.happenings.up ≡ None → IsBrought expected target datagram entries
-    → IsBrought (word ∷ expected) target datagram (x ∷ entries)
-brought_after x word expected target datagram entries a none b = record {
-  answers = λ i. a i ∷ b.answers i;
-  note = b.note;
-  up = (λ i. one_of (none i) ++ ups entries) ∙ b.up;
+-- What a run answers, and what it hands up.
+pub record Says (expected : List Answer) (handed : List Handed) (entries : List Entry) : Type 0 where
+  pub answers : answers_of entries ≡ expected
+  pub handed_is : ups entries ≡ handed
+
+pub says_first : (x : Entry) (word : Answer) (up : Option Handed) (expected : List Answer) (handed : List Handed) (entries : List Entry)
+    → x.trace.happenings.answer ≡ word → x.trace.happenings.up ≡ up → Says expected handed entries
+    → Says (word ∷ expected) (one_of up ++ handed) (x ∷ entries)
+says_first x word up expected handed entries a u s = record {
+  answers = λ i. a i ∷ s.answers i;
+  handed_is = λ i. one_of (u i) ++ s.handed_is i;
 }
 
-brought_at_last : (x : Entry) (target note : ℕ) (datagram : List ℕ) → x.trace.happenings.answer ≡ answers.Up
-    → x.trace.happenings.up ≡ Some (record { node = target; note = note; octets = datagram })
-    → IsBrought (answers.Up ∷ []) target datagram (x ∷ [])
-brought_at_last x target note datagram a up = record { answers = λ i. a i ∷ []; note = note; up = λ i. one_of (up i) ++ [] }
+-- # Lists by place
+
+pub get_before : {A : Type 0} (xs ys : List A) (k : ℕ) (x : A) → slice_get xs k ≡ Some x → slice_get (xs ++ ys) k ≡ Some x
+get_before [] ys k x e = absurd (cc)
+get_before (y ∷ xs) ys zero x e = e
+get_before (y ∷ xs) ys (suc k) x e = get_before xs ys k x e
+
+pub get_after : {A : Type 0} (xs ys : List A) (k j : ℕ) → k ≡ length xs + j → slice_get (xs ++ ys) k ≡ slice_get ys j
+get_after [] ys k j e = ap (slice_get ys) (omega (arith, e))
+get_after (x ∷ xs) ys zero j e = absurd (omega (arith, e))
+get_after (x ∷ xs) ys (suc k) j e = get_after xs ys k j (omega (arith, e))
+
+place_within : {A : Type 0} (xs : List A) (k : ℕ) (x : A) → slice_get xs k ≡ Some x → k < length xs
+place_within [] k x e = absurd (cc)
+place_within (y ∷ xs) zero x e = omega arith
+place_within (y ∷ xs) (suc k) x e = let h = place_within xs k x e in omega arith
+
+-- the flight at a place has the number after it
+at_place : (w : World) (flight place : ℕ) → flight ≡ place + 1 → flight_at w flight ≡ slice_get w.flights place
+at_place w flight place number =
+    let other : (flight == 0) ≡ false = ne_eqb flight 0 (λ e. absurd (omega (arith, number, e))) in
+    let less : flight - 1 ≡ place = omega (arith, number) in
+    (λ i. if other i then None else slice_get w.flights (flight - 1)) ∙ ap (slice_get w.flights) less
 
 -- # The nodes of a route
 
--- those that did nothing are there as before
-still_ready : (w v : World) (number : ℕ) (y : Node) (stops : List Stop) → v.nodes ≡ slice_set w.nodes number y → IsNoneOf number stops
-    → AreReady w stops → AreReady v stops
-still_ready w v number y [] same none ready = tt
-still_ready w v number y (s ∷ rest) same none ready = (
-  ap (λ nodes. slice_get nodes s.number) same ∙ slice_get-set_other w.nodes number s.number y none.0 ∙ ready.0,
-  ready.1,
-  still_ready w v number y rest same none.1 ready.2,
-)
-
 -- the last node is there
-last_ready : (w : World) (t : Stop) (rest : List Stop) → AreReady w (t ∷ rest)
+pub last_ready : (w : World) (t : Stop) (rest : List Stop) → AreReady w (t ∷ rest)
     → (node_at w (last_of t rest).number ≡ Some (last_of t rest).node) × IsReady (last_of t rest)
 last_ready w t [] ready = (ready.0, ready.1)
 last_ready w t (s ∷ rest) ready = last_ready w s rest ready.2
 
-address_is : (s : Stop) → IsReady s → node_address s.node ≡ Some s.granted.address
+pub address_is : (s : Stop) → IsReady s → node_address s.node ≡ Some s.granted.address
 address_is s ready =
     (λ i. option_and_then (λ (m : Memory). address_of m.station) (ready.memory i)) ∙ ap (λ (o : Option Granted). address_with o) ready.ring
   where
@@ -93,234 +108,344 @@ address_is s ready =
     address_with None = None
     address_with (Some g) = Some g.address
 
--- # What goes out is in its ranges
+-- each is ready
+abbrev pub AreFit : List Stop → Type 0
+AreFit [] = Unit {0}
+AreFit (s ∷ rest) = IsReady s × AreFit rest
 
-unit_fits : (mesh : Mesh) (datagram : List ℕ) → mesh.hops ≤ 14 → IsUnit (units.Whole mesh datagram)
-    → length (spelling (units.Whole mesh datagram)) ≤ 381
-unit_fits mesh datagram few fits =
-    let short : length datagram ≤ 375 = fits.2 in
-    let low : nat_lt mesh.hops 15 ≡ true = lt-ltb mesh.hops 15 (omega arith) in
-    let header : header_length mesh.hops ≡ 5 = λ i. if low i then 5 else 6 in
-    let spelled_so : spelled_length (units.Whole mesh datagram) ≡ length (spelling (units.Whole mesh datagram)) =
-    length_read (spelling (units.Whole mesh datagram)) (Ok (units.Whole mesh datagram)) (fits, refl) in
-    omega (arith, header, spelled_so)
+pub fit_of : (w : World) (stops : List Stop) → AreReady w stops → AreFit stops
+fit_of w [] ready = tt
+fit_of w (s ∷ rest) ready = (ready.1, fit_of w rest ready.2)
 
--- what a node of a route seals for the next one
-abbrev sealed_for : Stop → Stop → Mesh → List ℕ → ℕ → SealedUnit
-sealed_for s t mesh datagram note = record {
-  to = t.granted.address;
-  from = s.granted.address;
-  counter = s.memory.station.counter.next;
-  index = s.granted.active;
-  key = s.key;
-  unit = units.Whole mesh datagram;
-  note = note;
+-- A node of a route now, after so many frames went by it to an address: it admits this next counter of the node before it, and, at the end of
+-- the route, it holds these reassemblies.
+pub record IsNow (w : World) (dest from next sent : ℕ) (held : List Reassembly) (s : Stop) : Type 0 where
+  pub node : Node
+  pub memory : Memory
+  pub there : node_at w s.number ≡ Some node
+  pub runs : node.memory ≡ Some memory
+  pub spared : node.store.cut ≡ None
+  pub ring : memory.station.ring ≡ Some s.granted
+  pub routing : memory.station.routing ≡ s.memory.station.routing
+  pub sends : s.granted.address ≢ dest → memory.station.counter.next ≡ s.memory.station.counter.next + sent
+  pub gathers : s.granted.address ≡ dest → memory.station.reassemblies ≡ held
+  pub admits : room_for memory.station.marks from next ≡ Ok tt
+
+-- each node after the first
+abbrev pub AreNow : World → (dest sent : ℕ) → List Reassembly → Stop → List Stop → Type 0
+AreNow w dest sent held s [] = Unit {0}
+AreNow w dest sent held s (t ∷ rest) =
+    IsNow w dest s.granted.address (s.memory.station.counter.next + sent) sent held t × AreNow w dest sent held t rest
+
+-- a node that did nothing is as before
+still : (w v : World) (dest from next sent : ℕ) (held : List Reassembly) (s : Stop) → node_at v s.number ≡ node_at w s.number
+    → IsNow w dest from next sent held s → IsNow v dest from next sent held s
+still w v dest from next sent held s same now = record {
+  node = now.node;
+  memory = now.memory;
+  there = same ∙ now.there;
+  runs = now.runs;
+  spared = now.spared;
+  ring = now.ring;
+  routing = now.routing;
+  sends = now.sends;
+  gathers = now.gathers;
+  admits = now.admits;
 }
 
-sealable : (dest : ℕ) (s t : Stop) (mesh : Mesh) (datagram : List ℕ) (note : ℕ) → IsReady s → IsReady t → HasLink dest s t → mesh.hops ≤ 14
-    → IsUnit (units.Whole mesh datagram) → IsSealable (sealed_for s t mesh datagram note)
-sealable dest s t mesh datagram note ready next link few fits = record {
-  to = let low : t.granted.address < 0xFFFE = next.address in (omega arith, λ e. absurd (omega arith));
-  from = ready.address;
-  counter = let some : 1 ≤ counters_left s.memory.station = ltb-false (counters_left s.memory.station) 1 link.left in omega arith;
-  index = ready.index;
-  fields = fits;
-  size = unit_fits mesh datagram few fits;
-}
+-- so are those that are none of one that did something
+pub all_still : (w v : World) (number : ℕ) (y : Node) (dest sent : ℕ) (held : List Reassembly) (s : Stop) (stops : List Stop)
+    → v.nodes ≡ slice_set w.nodes number y → IsNoneOf number stops → AreNow w dest sent held s stops → AreNow v dest sent held s stops
+all_still w v number y dest sent held s [] same none now = tt
+all_still w v number y dest sent held s (t ∷ rest) same none now = (
+  still w v dest s.granted.address (s.memory.station.counter.next + sent) sent held t
+      (ap (λ nodes. slice_get nodes t.number) same ∙ slice_get-set_other w.nodes number t.number y none.0) now.0,
+  all_still w v number y dest sent held t rest same none.1 now.1,
+)
 
 -- # On the way
 
--- The last flight of a world has a datagram for an address: it goes whole, to this node of a route, which admits it and has its key; so
--- many nodes are to come.
-record IsUnderWay (ciphers : Ciphers) (w : World) (flight dest : ℕ) (t : Stop) (datagram : List ℕ) (more : ℕ) : Type 0 where
-  f : Flight
-  u : SealedUnit
-  mesh : Mesh
-  number : flight ≡ length w.flights
-  flown : flight_at w flight ≡ Some f
-  unlost : f.lost ≡ false
-  same : f.octets ≡ (spelled ciphers (Sealed u)).octets
-  fits : IsSealable u
-  unit_is : u.unit ≡ units.Whole mesh datagram
-  unit : IsUnit (units.Whole mesh datagram)
-  to : t.granted.address ≡ u.to
-  apart : t.granted.address ≢ u.from
-  key : key_at t.granted u.index ≡ Some u.key
-  room : room_for t.memory.station.marks u.from u.counter ≡ Ok tt
-  target : mesh.to ≡ dest
-  few : mesh.hops ≤ 14
-  enough : more < mesh.hops
+-- what a node of a route seals for the next one, after so many frames
+abbrev pub sealed_for : Stop → Stop → ℕ → MeshUnit → ℕ → SealedUnit
+sealed_for s t sent unit note = record {
+  to = t.granted.address;
+  from = s.granted.address;
+  counter = s.memory.station.counter.next + sent;
+  index = s.granted.active;
+  key = s.key;
+  unit = unit;
+  note = note;
+}
 
-no_target : (t : Stop) (u : SealedUnit) → IsReady t → t.granted.address ≡ u.to → u.to ≢ to_all
-no_target t u ready to e = let low : t.granted.address < 0xFFFE = ready.address in absurd (omega arith)
+-- The flight at a place has a unit of a datagram for an address, from a node of a route to the next one; so many nodes are to come.
+pub record IsUnderWay (ciphers : Ciphers) (w : World) (place dest origin sent : ℕ) (s t : Stop) (content : Content) (more : ℕ) : Type 0 where
+  pub f : Flight
+  pub mesh : Mesh
+  pub note : ℕ
+  pub flown : slice_get w.flights place ≡ Some f
+  pub unlost : f.lost ≡ false
+  pub same : f.octets ≡ (spelled ciphers (Sealed (sealed_for s t sent (unit_with mesh content) note))).octets
+  pub to : mesh.to ≡ dest
+  pub origin_is : mesh.origin ≡ origin
+  pub few : mesh.hops ≤ 14
+  pub enough : more < mesh.hops
 
--- the flight that a node adds is the last one
-flies_last : (v : World) (flights : List Flight) (f : Flight) (flight : ℕ) → v.flights ≡ flights ++ f ∷ [] → flight ≡ length flights
-    → flight_at v (flight + 1) ≡ Some f
-flies_last v flights f flight is number =
-    let other : (flight + 1 == 0) ≡ false = ne_eqb (flight + 1) 0 (λ e. absurd (omega arith)) in
-    let place : (flight + 1) - 1 ≡ length flights = omega (arith, number) in
-    (λ i. if other i then None else slice_get v.flights ((flight + 1) - 1))
-    ∙ ap (slice_get v.flights) place
-    ∙ ap (λ fs. slice_get fs (length flights)) is
-    ∙ slice_get-push flights f
+no_target : (t : Stop) → IsReady t → t.granted.address ≢ to_all
+no_target t ready e = let low : t.granted.address < 0xFFFE = ready.address in absurd (omega arith)
 
-one_more : (v : World) (flights : List Flight) (f : Flight) (flight : ℕ) → v.flights ≡ flights ++ f ∷ [] → flight ≡ length flights
-    → flight + 1 ≡ length v.flights
-one_more v flights f flight is number =
-    let longer : length v.flights ≡ length flights + 1 = ap length is ∙ length-append flights (f ∷ []) in omega (arith, number, longer)
+-- What the last node of a route makes of a unit: it says this word, leaves such reassemblies, and hands such a thing up.
+pub record Ends (content : Content) (origin : ℕ) (word : Answer) (Left : List Reassembly → Type 0) (IsSaid : Option Up → Type 0)
+    (l : StationMemory) (note now : ℕ) : Type 0 where
+  pub answer : Heard
+  pub left : List Reassembly
+  pub hears : Hears (taken_up l content origin note now) answer [] (record l { reassemblies = left })
+  pub read : unread (Ok answer) ≡ None
+  pub word_is : (station_reception answer).answer ≡ word
+  pub said : IsSaid (station_reception answer).up
+  pub good : Left left
 
-module _ (ciphers : Ciphers) (opens : OpensWhatItSeals ciphers) where
-  -- what comes of a flight at a node of a route
-  step_is : (w : World) (flight dest : ℕ) (t : Stop) (datagram : List ℕ) (more : ℕ) (way : IsUnderWay ciphers w flight dest t datagram more)
-      → node_at w t.number ≡ Some t.node
-      → line_step ciphers w (events.Deliver flight t.number t.cost)
-      ≡ Ok (comes ciphers w t.number t.node (spelled ciphers (Sealed way.u)).octets t.cost)
-  step_is w flight dest t datagram more way there =
-      delivered ciphers w flight t.number t.cost t.node way.f there way.flown way.unlost
-      ∙ ap (λ octets. Ok (comes ciphers w t.number t.node octets t.cost)) way.same
+-- What a route that a unit went along is then, and what it said.
+pub record Carried (ciphers : Ciphers) (dest sent : ℕ) (word : Answer) (Left : List Reassembly → Type 0) (IsSaid : Option Up → Type 0)
+    (w : World) (flight next : ℕ) (s t : Stop) (rest : List Stop) : Type 0 where
+  pub world : World
+  pub left : List Reassembly
+  pub good : Left left
+  pub up : Option Up
+  pub said : IsSaid up
+  pub now : AreNow world dest (sent + 1) left s (t ∷ rest)
+  pub others : (number : ℕ) → IsNoneOf number (t ∷ rest) → node_at world number ≡ node_at w number
+  pub stays : (place : ℕ) (f : Flight) → slice_get w.flights place ≡ Some f → slice_get world.flights place ≡ Some f
+  pub flights : length world.flights ≡ length w.flights + length rest
+  pub events : world.events ≡ w.events + (1 + length rest)
+  pub says : (more : List Event) (expected : List Answer) (handed : List Handed) → Says expected handed (run ciphers world more)
+      → Says (delivery_answers word rest ++ expected) (one_of (handed_by (last_of t rest).number up) ++ handed)
+      (run ciphers w (deliveries flight next t rest ++ more))
 
-  -- the flight that a node of a route adds is under way to the next one
-  way_from : (w v : World) (flight dest : ℕ) (s t : Stop) (mesh : Mesh) (datagram : List ℕ) (note more : ℕ) → IsReady s → IsReady t → HasLink dest s t
-      → IsUnit (units.Whole mesh datagram) → mesh.hops ≤ 14 → mesh.to ≡ dest → more < mesh.hops
-      → v.flights ≡ w.flights ++ flight_by s.number (spelled ciphers (Sealed (sealed_for s t mesh datagram note))) ∷ []
-      → flight ≡ length w.flights → IsUnderWay ciphers v (flight + 1) dest t datagram more
-  way_from w v flight dest s t mesh datagram note more ready next link unit few target enough flies number =
-      let u : SealedUnit = sealed_for s t mesh datagram note in
-      let f : Flight = flight_by s.number (spelled ciphers (Sealed u)) in
+module _ (ciphers : Ciphers) (opens : OpensWhatItSeals ciphers) (frames dest origin sent : ℕ) (here : IsAddress origin) (there : IsAddress dest)
+    (below : sent < frames) (content : Content) (fits : IsContent content) (held : List Reassembly) (word : Answer)
+    (Left : List Reassembly → Type 0) (IsSaid : Option Up → Type 0)
+    (ends : (l : StationMemory) (note now : ℕ) → l.reassemblies ≡ held → Ends content origin word Left IsSaid l note now) where
+  sealable : (s t : Stop) (mesh : Mesh) (note : ℕ) → IsReady s → IsReady t → HasLink frames dest s t → mesh.hops ≤ 14 → mesh.origin ≡ origin
+      → mesh.to ≡ dest → IsSealable (sealed_for s t sent (unit_with mesh content) note)
+  sealable s t mesh note ready next link few from to =
+      let mesh_fits : IsMesh mesh = record {
+        hops = omega arith;
+        origin = subst (λ a. IsAddress a) (sym from) here;
+        to = subst (λ a. IsAddress a) (sym to) there;
+      } in
       record {
-        f = f;
-        u = u;
-        mesh = mesh;
-        number = one_more v w.flights f flight flies number;
-        flown = flies_last v w.flights f flight flies number;
-        unlost = refl;
-        same = refl;
-        fits = sealable dest s t mesh datagram note ready next link few unit;
-        unit_is = refl;
-        unit = unit;
-        to = refl;
-        apart = link.apart;
-        key = link.opens;
-        room = link.admits;
-        target = target;
-        few = few;
-        enough = enough;
+        to = let low : t.granted.address < 0xFFFE = next.address in (omega arith, λ e. absurd (omega arith));
+        from = ready.address;
+        counter =
+            let left : frames ≤ counters_left s.memory.station = ltb-false (counters_left s.memory.station) frames link.left in omega (arith, below, left);
+        index = ready.index;
+        fields = fits.unit mesh mesh_fits;
+        size = fits.size mesh mesh_fits few;
       }
 
-  module _ (w : World) (flight dest : ℕ) (t : Stop) (datagram : List ℕ) (more : ℕ) (way : IsUnderWay ciphers w flight dest t datagram more)
-      (ready : IsReady t) where
+  module _ (w : World) (place : ℕ) (s t : Stop) (more : ℕ) (first : IsReady s) (ready : IsReady t) (link : HasLink frames dest s t)
+      (now : IsNow w dest s.granted.address (s.memory.station.counter.next + sent) sent held t)
+      (way : IsUnderWay ciphers w place dest origin sent s t content more) where
+    abbrev u : SealedUnit
+    u = sealed_for s t sent (unit_with way.mesh content) way.note
+
+    u_fits : IsSealable u
+    u_fits = sealable s t way.mesh way.note first ready link way.few way.origin_is way.to
+
+    -- what comes of the flight at the node
+    abbrev came : World × Trace
+    came = comes ciphers w t.number now.node (spelled ciphers (Sealed u)).octets t.cost
+
+    step_is : (flight : ℕ) → flight ≡ place + 1 → line_step ciphers w (events.Deliver flight t.number t.cost) ≡ Ok came
+    step_is flight number =
+        delivered ciphers w flight t.number t.cost now.node way.f now.there (at_place w flight place number ∙ way.flown) way.unlost
+        ∙ ap (λ octets. Ok (comes ciphers w t.number now.node octets t.cost)) way.same
+
     abbrev note_now : ℕ
     note_now =
-        note_is ciphers opens w t.number t.cost t.node t.memory t.granted ready.memory ready.spared ready.ring way.u way.fits way.mesh datagram way.unit_is
-        way.to (no_target t way.u ready way.to) way.apart way.key way.room
+        note_is ciphers opens w t.number t.cost now.node now.memory t.granted now.runs now.spared now.ring u u_fits way.mesh content refl
+        refl (no_target t ready) link.apart link.opens now.admits
 
     abbrev marked_now : StationMemory
     marked_now =
-        marked ciphers opens w t.number t.cost t.node t.memory t.granted ready.memory ready.spared ready.ring way.u way.fits way.mesh datagram way.unit_is
-        way.to (no_target t way.u ready way.to) way.apart way.key way.room
+        marked ciphers opens w t.number t.cost now.node now.memory t.granted now.runs now.spared now.ring u u_fits way.mesh content refl
+        refl (no_target t ready) link.apart link.opens now.admits
 
-    reads_now : unit_in (got_of way.u).payload ≡ Some (units.Whole way.mesh datagram)
+    reads_now : unit_in (got_of u).payload ≡ Some (unit_with way.mesh content)
     reads_now =
-        reads ciphers opens w t.number t.cost t.node t.memory t.granted ready.memory ready.spared ready.ring way.u way.fits way.mesh datagram way.unit_is
-        way.to (no_target t way.u ready way.to) way.apart way.key way.room
+        reads ciphers opens w t.number t.cost now.node now.memory t.granted now.runs now.spared now.ring u u_fits way.mesh content refl
+        refl (no_target t ready) link.apart link.opens now.admits
 
     ring_now : marked_now.ring ≡ Some t.granted
     unfolding marking
-    ring_now = ready.ring
+    ring_now = now.ring
 
-    -- at the end of the route the datagram is handed up
-    comes_up : t.granted.address ≡ dest
-        → Goes ciphers w t.number (station_reception (heard.Up way.mesh.origin note_now datagram)) []
-        (comes ciphers w t.number t.node (spelled ciphers (Sealed way.u)).octets t.cost)
-    comes_up last =
-        frame_comes ciphers opens w t.number t.cost t.node t.memory t.granted ready.memory ready.spared ready.ring way.u way.fits way.mesh datagram
-        way.unit_is way.to (no_target t way.u ready way.to) way.apart way.key way.room (heard.Up way.mesh.origin note_now datagram) []
-        (is_handed_up marked_now t.granted ring_now way.u.from way.u.key way.mesh datagram (got_of way.u).payload reads_now t.cost note_now w.clock
-        (way.target ∙ sym last)) refl
+    gathers_now : marked_now.reassemblies ≡ now.memory.station.reassemblies
+    unfolding marking
+    gathers_now = refl
 
-    module _ (s : Stop) (link : HasLink dest t s) (some : 1 ≤ more) where
-      route_now : next_hop marked_now way.mesh.to ≡ Some s.granted.address
+    -- the node has kept the counter
+    admits_now : room_for (kept_after now.memory.station.marks s.granted.address (s.memory.station.counter.next + sent)) s.granted.address
+        (s.memory.station.counter.next + (sent + 1)) ≡ Ok tt
+    admits_now =
+        let one_more : (s.memory.station.counter.next + sent) + 1 ≡ s.memory.station.counter.next + (sent + 1) = omega arith in
+        subst (λ c. room_for (kept_after now.memory.station.marks s.granted.address (s.memory.station.counter.next + sent)) s.granted.address c ≡ Ok tt)
+        one_more (admits_next now.memory.station.marks s.granted.address (s.memory.station.counter.next + sent))
+
+    -- where a world has another node in its place
+    is_there : (v : World) (y : Node) → v.nodes ≡ slice_set w.nodes t.number y → node_at v t.number ≡ Some y
+    is_there v y nodes =
+        ap (λ ns. slice_get ns t.number) nodes ∙ slice_get-set w.nodes t.number y (place_within w.nodes t.number now.node now.there)
+
+    -- at the end of the route the unit is taken up
+    module _ (at : t.granted.address ≡ dest) where
+      abbrev end : Ends content origin word Left IsSaid marked_now note_now w.clock
+      end = ends marked_now note_now w.clock (gathers_now ∙ now.gathers at)
+
+      abbrev gathered_now : StationMemory
+      gathered_now = record marked_now { reassemblies = end.left }
+
+      hears_last : Hears (hear marked_now (got_of u) t.cost note_now w.clock) end.answer [] gathered_now
+      hears_last =
+          subst (λ p. Hears p end.answer [] gathered_now)
+          (sym (is_taken_up marked_now t.granted ring_now u.from u.key way.mesh content (got_of u).payload reads_now t.cost note_now w.clock
+          (way.to ∙ sym at) ∙ ap (λ o. taken_up marked_now content o note_now w.clock) way.origin_is)) end.hears
+
+      comes_last : Goes ciphers w t.number (station_reception end.answer) [] (with_station gathered_now now.memory) came
+      comes_last =
+          frame_comes ciphers opens w t.number t.cost now.node now.memory t.granted now.runs now.spared now.ring u u_fits way.mesh content refl
+          refl (no_target t ready) link.apart link.opens now.admits end.answer [] gathered_now hears_last end.read
+
+      last_now : IsNow came.0 dest s.granted.address (s.memory.station.counter.next + (sent + 1)) (sent + 1) end.left t
+      unfolding marking
+      last_now = record {
+        node = comes_last.node;
+        memory = with_station gathered_now now.memory;
+        there = is_there came.0 comes_last.node comes_last.nodes;
+        runs = comes_last.memory;
+        spared = comes_last.spared;
+        ring = now.ring;
+        routing = now.routing;
+        sends = λ on. absurd (on at);
+        gathers = λ _. refl;
+        admits = admits_now;
+      }
+
+    -- before, it goes on
+    module _ (next : Stop) (onto : HasLink frames dest t next) (some : 1 ≤ more) where
+      counter_is : now.memory.station.counter.next ≡ t.memory.station.counter.next + sent
+      counter_is = now.sends onto.on
+
+      route_now : next_hop marked_now way.mesh.to ≡ Some next.granted.address
       unfolding marking next_hop
-      route_now = ap (routing.next_of t.memory.station.routing) way.target ∙ link.route
+      route_now = ap (routing.next_of now.memory.station.routing) way.to ∙ ap (λ r. routing.next_of r dest) now.routing ∙ onto.route
 
       left_now : nat_lt (counters_left marked_now) 1 ≡ false
       unfolding marking
-      left_now = link.left
+      left_now =
+          let left : frames ≤ counters_left t.memory.station = ltb-false (counters_left t.memory.station) frames onto.left in
+          le-ltb (counters_left now.memory.station) 1 (omega (arith, below, left, counter_is))
 
-      -- before it goes on
-      comes_on : Goes ciphers w t.number (station_reception heard.Relayed) (Sealed (sealed_for t s (hop_less way.mesh) datagram note_now) ∷ [])
-          (comes ciphers w t.number t.node (spelled ciphers (Sealed way.u)).octets t.cost)
+      -- what it seals
+      abbrev onward : SealedUnit
+      onward = record (sealed_for t next sent (unit_with (hop_less way.mesh) content) note_now) { counter = now.memory.station.counter.next }
+
+      comes_on : Goes ciphers w t.number (station_reception heard.Relayed) (Sealed onward ∷ []) (with_station (sent_one marked_now) now.memory) came
       unfolding marking
       comes_on =
-          frame_comes ciphers opens w t.number t.cost t.node t.memory t.granted ready.memory ready.spared ready.ring way.u way.fits way.mesh datagram
-          way.unit_is way.to (no_target t way.u ready way.to) way.apart way.key way.room heard.Relayed
-          (Sealed (sealed_for t s (hop_less way.mesh) datagram note_now) ∷ [])
-          (goes_on marked_now t.granted ring_now way.u.from way.u.key way.mesh datagram (got_of way.u).payload reads_now t.cost note_now w.clock
-          (λ e. link.on (sym e ∙ way.target)) s.granted.address route_now (let more_left = way.enough in omega arith) left_now t.key ready.key) refl
+          frame_comes ciphers opens w t.number t.cost now.node now.memory t.granted now.runs now.spared now.ring u u_fits way.mesh content refl
+          refl (no_target t ready) link.apart link.opens now.admits heard.Relayed (Sealed onward ∷ []) (sent_one marked_now)
+          (goes_on marked_now t.granted ring_now u.from u.key way.mesh content (got_of u).payload reads_now t.cost note_now w.clock
+          (λ e. onto.on (sym e ∙ way.to)) next.granted.address route_now (let enough = way.enough in omega arith) left_now t.key ready.key) refl
 
-  unit_on : (mesh : Mesh) (datagram : List ℕ) → IsUnit (units.Whole mesh datagram) → IsUnit (units.Whole (hop_less mesh) datagram)
-  unit_on mesh datagram fits = (record { hops = let low = fits.0.hops in omega arith; origin = fits.0.origin; to = fits.0.to }, fits.1, fits.2)
+      on_now : (any : List Reassembly) → IsNow came.0 dest s.granted.address (s.memory.station.counter.next + (sent + 1)) (sent + 1) any t
+      unfolding marking
+      on_now any = record {
+        node = comes_on.node;
+        memory = with_station (sent_one marked_now) now.memory;
+        there = is_there came.0 comes_on.node comes_on.nodes;
+        runs = comes_on.memory;
+        spared = comes_on.spared;
+        ring = now.ring;
+        routing = now.routing;
+        sends = λ on. ap (λ n. n + 1) counter_is ∙ omega arith;
+        gathers = λ e. absurd (onto.on e);
+        admits = admits_now;
+      }
 
-  brings : (rest : List Stop) (w : World) (flight dest : ℕ) (t : Stop) (datagram : List ℕ) → AreReady w (t ∷ rest) → IsStraight (t ∷ rest)
-      → HasRoute dest t rest → IsUnderWay ciphers w flight dest t datagram (length rest) → w.events + (1 + length rest) ≤ MAX_EVENTS
-      → IsBrought (delivery_answers t rest) (last_of t rest).number datagram (run ciphers w (deliveries flight t rest))
-  brings [] w flight dest t datagram ready straight holds way room =
-      let r : World × Trace = comes ciphers w t.number t.node (spelled ciphers (Sealed way.u)).octets t.cost in
+      -- the flight that it adds is under way to the next node
+      on_its_way : (rest : ℕ) → rest < more → IsUnderWay ciphers came.0 (length w.flights) dest origin sent t next content rest
+      on_its_way rest fewer = record {
+        f = flight_by t.number (spelled ciphers (Sealed onward));
+        mesh = hop_less way.mesh;
+        note = note_now;
+        flown = ap (λ fs. slice_get fs (length w.flights)) comes_on.flights ∙ slice_get-push w.flights _;
+        unlost = refl;
+        same = ap (λ c. (spelled ciphers (Sealed (record onward { counter = c }))).octets) counter_is;
+        to = way.to;
+        origin_is = way.origin_is;
+        few = let few = way.few in omega arith;
+        enough = let enough = way.enough in omega (arith, enough, fewer);
+      }
+
+  pub carry : (rest : List Stop) (w : World) (place flight next : ℕ) (s t : Stop) → flight ≡ place + 1 → next ≡ length w.flights + 1
+      → AreFit (s ∷ t ∷ rest) → IsStraight (t ∷ rest) → HasRoute frames dest s (t ∷ rest) → AreNow w dest sent held s (t ∷ rest)
+      → IsUnderWay ciphers w place dest origin sent s t content (length rest) → w.events + (1 + length rest) ≤ MAX_EVENTS
+      → Carried ciphers dest sent word Left IsSaid w flight next s t rest
+  carry [] w place flight next s t number after fit straight route now way room =
+      let r : World × Trace = came w place s t 0 fit.0 fit.1.0 route.0 now.0 way in
+      let goes = comes_last w place s t 0 fit.0 fit.1.0 route.0 now.0 way route.1 in
+      let over = end w place s t 0 fit.0 fit.1.0 route.0 now.0 way route.1 in
       let event : Event = events.Deliver flight t.number t.cost in
-      let goes = comes_up w flight dest t datagram 0 way ready.1 holds in
-      subst (λ es. IsBrought (answers.Up ∷ []) t.number datagram es)
-      (sym (runs_on ciphers w event [] r (omega arith) (step_is w flight dest t datagram 0 way ready.0)))
-      (brought_at_last (record { number = w.events + 1; event = event; trace = r.1; after = r.0 }) t.number
-      (note_now w flight dest t datagram 0 way ready.1) datagram goes.answer_is goes.up_is)
-  brings (s ∷ rest) w flight dest t datagram ready straight holds way room =
-      let r : World × Trace = comes ciphers w t.number t.node (spelled ciphers (Sealed way.u)).octets t.cost in
+      record {
+        world = r.0;
+        left = over.left;
+        good = over.good;
+        up = (station_reception over.answer).up;
+        said = over.said;
+        now = (last_now w place s t 0 fit.0 fit.1.0 route.0 now.0 way route.1, tt);
+        others = λ number none. ap (λ ns. slice_get ns number) goes.nodes
+            ∙ slice_get-set_other w.nodes t.number number goes.node (λ e. none.0 (sym e));
+        stays = λ k f e. ap (λ fs. slice_get fs k) goes.flights ∙ get_before w.flights [] k f e;
+        flights = ap length goes.flights ∙ length-append w.flights [];
+        events = goes.events;
+        says = λ more expected handed h. subst (λ es. Says (word ∷ expected) (one_of (handed_by t.number (station_reception over.answer).up) ++ handed) es)
+            (sym (runs_on ciphers w event more r (omega (arith, room)) (step_is w place s t 0 fit.0 fit.1.0 route.0 now.0 way flight number)))
+            (says_first (record { number = w.events + 1; event = event; trace = r.1; after = r.0 }) word
+            (handed_by t.number (station_reception over.answer).up) expected handed (run ciphers r.0 more) (goes.answer_is ∙ over.word_is) goes.up_is h);
+      }
+  carry (z ∷ rest) w place flight next s t number after fit straight route now way room =
+      let more : ℕ = length (z ∷ rest) in
+      let some : 1 ≤ more = omega arith in
+      let r : World × Trace = came w place s t more fit.0 fit.1.0 route.0 now.0 way in
+      let goes = comes_on w place s t more fit.0 fit.1.0 route.0 now.0 way z route.1.0 some in
       let event : Event = events.Deliver flight t.number t.cost in
-      let more : ℕ = length (s ∷ rest) in
-      let goes = comes_on w flight dest t datagram more way ready.1 s holds.0 (omega arith) in
-      let next : AreReady r.0 (s ∷ rest) = still_ready w r.0 t.number goes.node (s ∷ rest) goes.nodes straight.0 ready.2 in
-      let on : IsUnderWay ciphers r.0 (flight + 1) dest s datagram (length rest) =
-      way_from w r.0 flight dest t s (hop_less way.mesh) datagram (note_now w flight dest t datagram more way ready.1) (length rest) ready.1 next.1 holds.0
-      (unit_on way.mesh datagram way.unit) (let few = way.few in omega arith) way.target (let left = way.enough in omega arith) goes.flights way.number in
-      let counted = goes.events in
-      subst (λ es. IsBrought (answers.Relayed ∷ delivery_answers s rest) (last_of s rest).number datagram es)
-      (sym (runs_on ciphers w event (deliveries (flight + 1) s rest) r (omega arith) (step_is w flight dest t datagram more way ready.0)))
-      (brought_after (record { number = w.events + 1; event = event; trace = r.1; after = r.0 }) answers.Relayed (delivery_answers s rest)
-      (last_of s rest).number datagram (run ciphers r.0 (deliveries (flight + 1) s rest)) goes.answer_is goes.up_is
-      (brings rest r.0 (flight + 1) dest s datagram next straight.1 holds.1 on (omega (arith, counted))))
-
-pub arrive : DatagramsArrive
-arrive ciphers opens w s t rest datagram may =
-    let some = may.some in
-    let few = may.few in
-    let short = may.short in
-    let room = may.room in
-    let ready : AreReady w (s ∷ t ∷ rest) = may.ready in
-    let straight : IsStraight (s ∷ t ∷ rest) = may.straight in
-    let holds : HasRoute (last_of t rest).granted.address s (t ∷ rest) = may.route in
-    let last = last_ready w t rest ready.2 in
-    let z : Stop = last_of t rest in
-    let dest : ℕ = z.granted.address in
-    let first : IsReady s = ready.1 in
-    let link : HasLink dest s t = holds.0 in
-    let event : Event = events.Send s.number z.number datagram in
-    let r : World × Trace = sends_by ciphers w s.number z.number datagram s.node (Some dest) in
-    let mesh : Mesh = own_mesh s.granted.address dest in
-    let unit : IsUnit (units.Whole mesh datagram) =
-    (record { hops = omega arith; origin = first.address; to = last.1.address }, some, few) in
-    let step = steps_so ciphers w s.number z.number datagram s.node z.node dest ready.0 last.0 (address_is z last.1) in
-    let out = it_leaves ciphers w s.number z.number datagram s.node z.node dest ready.0 last.0 (address_is z last.1) s.memory first.memory first.spared
-    (Sealed (sealed_for s t mesh datagram (w.sends + 1)) ∷ [])
-    (sends_it s.memory.station s.granted first.ring dest t.granted.address link.on link.route link.left s.key first.key datagram some few (w.sends + 1)
-    w.clock) in
-    let next : AreReady r.0 (t ∷ rest) = still_ready w r.0 s.number out.node (t ∷ rest) out.nodes straight.0 ready.2 in
-    let on : IsUnderWay ciphers r.0 (length w.flights + 1) dest t datagram (length rest) =
-    way_from ciphers opens w r.0 (length w.flights) dest s t mesh datagram (w.sends + 1) (length rest) first next.1 link unit (omega arith) refl (omega arith)
-    out.flights
-    refl in
-    let counted = out.events in
-    subst (λ es. IsBrought (answers.Sent ∷ delivery_answers t rest) z.number datagram es)
-    (sym (runs_on ciphers w event (deliveries (length w.flights + 1) t rest) r (omega arith) step))
-    (brought_after (record { number = w.events + 1; event = event; trace = r.1; after = r.0 }) answers.Sent (delivery_answers t rest) z.number datagram
-    (run ciphers r.0 (deliveries (length w.flights + 1) t rest)) out.answer_is out.up_is
-    (brings ciphers opens rest r.0 (length w.flights + 1) dest t datagram next straight.1 holds.1 on (omega (arith, counted))))
+      let longer : length r.0.flights ≡ length w.flights + 1 = ap length goes.flights ∙ length-append w.flights _ in
+      let counted : r.0.events ≡ w.events + 1 = goes.events in
+      let ahead = carry rest r.0 (length w.flights) next (next + 1) t z after (omega (arith, after, longer)) fit.1 straight.1 route.1
+      (all_still w r.0 t.number goes.node dest sent held t (z ∷ rest) goes.nodes straight.0 now.1)
+      (on_its_way w place s t more fit.0 fit.1.0 route.0 now.0 way z route.1.0 some (length rest) (omega arith)) (omega (arith, room, counted)) in
+      record {
+        world = ahead.world;
+        left = ahead.left;
+        good = ahead.good;
+        up = ahead.up;
+        said = ahead.said;
+        now = (
+          still r.0 ahead.world dest s.granted.address (s.memory.station.counter.next + (sent + 1)) (sent + 1) ahead.left t
+              (ahead.others t.number straight.0) (on_now w place s t more fit.0 fit.1.0 route.0 now.0 way z route.1.0 some ahead.left),
+          ahead.now,
+        );
+        others = λ number none. ahead.others number none.1 ∙ ap (λ ns. slice_get ns number) goes.nodes
+            ∙ slice_get-set_other w.nodes t.number number goes.node (λ e. none.0 (sym e));
+        stays = λ k f e. ahead.stays k f (ap (λ fs. slice_get fs k) goes.flights ∙ get_before w.flights _ k f e);
+        flights = let all = ahead.flights in omega (arith, all, longer);
+        events = let all = ahead.events in omega (arith, all, counted);
+        says = λ further expected handed h. subst (λ es. Says (answers.Relayed ∷ (delivery_answers word rest ++ expected))
+            (one_of (handed_by (last_of z rest).number ahead.up) ++ handed) es)
+            (sym (runs_on ciphers w event (deliveries next (next + 1) z rest ++ further) r (omega (arith, room))
+            (step_is w place s t more fit.0 fit.1.0 route.0 now.0 way flight number)))
+            (says_first (record { number = w.events + 1; event = event; trace = r.1; after = r.0 }) answers.Relayed None
+            (delivery_answers word rest ++ expected) (one_of (handed_by (last_of z rest).number ahead.up) ++ handed)
+            (run ciphers r.0 (deliveries next (next + 1) z rest ++ further)) goes.answer_is goes.up_is (ahead.says further expected handed h));
+      }

@@ -1,15 +1,15 @@
--- A node sends a datagram that fits one frame, by a valid route.
+-- A node sends a datagram by a valid route: whole, or in pieces.
 use Rattle.std.proofs.Common.{◌≡◌, ◌≢◌, ℕ, ◌+◌, ◌<◌, ◌≤◌, true, false, List, [], ◌∷◌, ◌++◌, length, map, Some, None, Result, Ok, Err, refl, sym}
 use Rattle.std.proofs.Common.{ap, subst, ◌∙◌, arith}
 use Rattle.std.specs.Prelude.{if◌then◌else◌, nat_lt, nat_le, is_some, slice_set, ◌==◌, ◌||◌}
 use Rattle.std.specs.Option.{option_map, option_map_or}
-use Rattle.std.proofs.lemmas.Bool.{ne_eqb, le-ltb, le-leb, lt-ltb}
+use Rattle.std.proofs.lemmas.Bool.{ne_eqb, le-ltb, lt-ltb}
 use Rattle.plc_base.specs.Faults.{◌then◌, ◌when◌}
 use Rattle.plc_base.specs.declared.key.Key.{Key}
 use Rattle.plc_base.specs.Grant.{Granted}
-use Rattle.mesh_header.specs.declared.unit.Unit.TheVariants as units
-use Rattle.fragment_buffers.specs.Fragmentation.{pieces_cut}
-use Rattle.fragment_buffers.specs.Loads.{all_go, own_mesh}
+use Rattle.plc_base.specs.Keeper.{Write}
+use Rattle.mesh_header.specs.declared.unit.Unit.{Unit as MeshUnit}
+use Rattle.fragment_buffers.specs.Loads.{all_go, units_of}
 use Rattle.node_rules.specs.declared.heard.SentHow.{SentHow}
 use Rattle.node_rules.specs.declared.heard.SentHow.TheVariants as how_of
 use Rattle.node_rules.specs.declared.refusal.SendRefusal.{SendRefusal}
@@ -18,9 +18,10 @@ use Rattle.node_rules.specs.Accepting.{is_own}
 use Rattle.node_rules.specs.Calls.{Sending, how, lacking, send, send_fault, send_from, sending_ends, tag_taken}
 use Rattle.node_rules.specs.Ciphers.{Ciphers}
 use Rattle.node_rules.specs.Drafts.{Draft, OfRoom, OfNumbers, alone, body_goes, checked, counters_left, empty_draft, is_awaited, lack, no_room}
+use Rattle.node_rules.specs.Drafts.{tag_after, tag_write}
 use Rattle.node_rules.specs.Drafts.{numbers_spent}
 use Rattle.node_rules.specs.Drafts.{refused, sealed, sealed_by, sealed_units, sealing, sealing_key, sets_out, with_next_tag}
-use Rattle.node_rules.specs.Frames.{Sent, Sealed, spelled}
+use Rattle.node_rules.specs.Frames.{Sent, spelled}
 use Rattle.node_rules.specs.Memory.{StationMemory, Memory, Node, Datagram, next_hop, node_address}
 use Rattle.node_rules.specs.NodeSteps.{NodeStep, acts, answering, of_station}
 use Rattle.line_events.specs.declared.event.Answer.{Answer}
@@ -41,13 +42,47 @@ pub record SendsIt (p : Sending) (frames : List Sent) : Type 0 where
   pub answer_is : p.answer ≡ Ok how_of.Sent
   pub frames_is : p.frames ≡ frames
 
+-- the draft of a datagram before its units, with the tag that is then the next one
+abbrev pub begun_with : StationMemory → List Write → ℕ → Draft StationMemory
+begun_with l puts tag = record {
+  puts = puts;
+  memory = record l { next_tag = tag };
+  units = [];
+  plain = [];
+  made = [];
+  opened = [];
+}
+
+-- a datagram that goes whole takes no tag
+pub takes_none : (l : StationMemory) (datagram : List ℕ) → nat_le (length datagram) 375 ≡ true
+    → tag_taken datagram (empty_draft l) ≡ begun_with l [] l.next_tag
+unfolding empty_draft
+takes_none l datagram small = λ i. if small i then empty_draft l else with_next_tag (empty_draft l)
+
+-- one in pieces takes the next one
+pub takes_next : (l : StationMemory) (datagram : List ℕ) → nat_le (length datagram) 375 ≡ false
+    → tag_taken datagram (empty_draft l) ≡ begun_with l (tag_write l.next_tag ∷ []) (tag_after l.next_tag)
+unfolding empty_draft with_next_tag
+takes_next l datagram long = λ i. if long i then empty_draft l else with_next_tag (empty_draft l)
+
+-- A datagram of these units, and what stands before them in its draft.
+pub record IsCut (l : StationMemory) (own dest : ℕ) (datagram : List ℕ) (puts : List Write) (tag : ℕ) (us : List MeshUnit) : Type 0 where
+  pub begun : tag_taken datagram (empty_draft l) ≡ begun_with l puts tag
+  pub units : units_of own dest (Datagram datagram l.next_tag) ≡ us
+
 module _ (l : StationMemory) (g : Granted) (ring : l.ring ≡ Some g) (dest hop : ℕ) (away : g.address ≢ dest) (route : next_hop l dest ≡ Some hop)
-    (left : nat_lt (counters_left l) 1 ≡ false) (k : Key) (keyed : sealing_key g ≡ Some k) (datagram : List ℕ) (some : 0 < length datagram)
-    (few : length datagram ≤ 375) (note now : ℕ) where
-  sets : sets_out g.address dest note (Datagram datagram l.next_tag) now (empty_draft l)
-      ≡ body_goes g.address hop dest note (Datagram datagram l.next_tag) (empty_draft l)
-  unfolding empty_draft
-  sets = rw route refl
+    (k : Key) (keyed : sealing_key g ≡ Some k) (datagram : List ℕ) (some : 0 < length datagram) (few : length datagram ≤ 1280) (note now : ℕ)
+    (puts : List Write) (tag : ℕ) (us : List MeshUnit) (cut : IsCut l g.address dest datagram puts tag us)
+    (left : nat_lt (counters_left l) (length (all_go hop note us)) ≡ false) where
+  abbrev begun : Draft StationMemory
+  begun = begun_with l puts tag
+
+  route_then : next_hop begun.memory dest ≡ Some hop
+  unfolding next_hop
+  route_then = route
+
+  sets : sets_out g.address dest note (Datagram datagram l.next_tag) now begun ≡ body_goes g.address hop dest note (Datagram datagram l.next_tag) begun
+  sets = rw route_then refl
 
   none_lacks : lack l dest (length datagram) ≡ None
   unfolding lack
@@ -60,34 +95,19 @@ module _ (l : StationMemory) (g : Granted) (ring : l.ring ≡ Some g) (dest hop 
   no_fault =
       let n : ℕ = length datagram in
       let zero_not : (n == 0) ≡ false = ne_eqb n 0 (λ e. absurd (omega arith)) in
-      let big_not : nat_lt 1280 n ≡ false = le-ltb 1280 n (omega arith) in
+      let big_not : nat_lt 1280 n ≡ false = le-ltb 1280 n few in
       let own_not : is_own l dest ≡ false = own_is l g ring dest ∙ ne_eqb g.address dest away in
       λ i. Some refusals.BadSize when (zero_not i || big_not i)
       then Some refusals.ToSelf when own_not i
       then option_map lacking (none_lacks i)
 
-  -- the draft of the one unit
+  -- the draft with its units
   abbrev drafted : Draft StationMemory
-  drafted = record {
-    puts = [];
-    memory = l;
-    units = record { to = hop; unit = units.Whole (own_mesh g.address dest) datagram; note = note } ∷ [];
-    plain = [];
-    made = [];
-    opened = [];
-  }
+  drafted = record begun { units = all_go hop note us }
 
-  small : nat_le (length datagram) 375 ≡ true
-  small = le-leb (length datagram) 375 few
-
-  body_is : body_goes g.address hop dest note (Datagram datagram l.next_tag) (empty_draft l) ≡ drafted
-  unfolding body_goes empty_draft
-  body_is =
-      λ i. record drafted {
-        units = all_go hop note
-            (if small i then units.Whole (own_mesh g.address dest) datagram ∷ []
-            else map (λ piece. units.Part (own_mesh g.address dest) piece) (pieces_cut datagram l.next_tag));
-      }
+  body_is : body_goes g.address hop dest note (Datagram datagram l.next_tag) begun ≡ drafted
+  unfolding body_goes
+  body_is = λ i. record begun { units = all_go hop note (cut.units i) }
 
   plan_is : send l dest datagram note now ≡ sealing alone sending_ends drafted how_of.Sent
   unfolding checked sealed
@@ -96,22 +116,13 @@ module _ (l : StationMemory) (g : Granted) (ring : l.ring ≡ Some g) (dest hop 
       (refused sending_ends l refusals.NotJoined))
       ∙ (λ i. checked sending_ends l (no_fault i)
       (sealed alone sending_ends l (sets_out g.address dest note (Datagram datagram l.next_tag) now (tag_taken datagram (empty_draft l))) (how l dest)))
-      ∙ (λ i. sealed alone sending_ends l
-      (sets_out g.address dest note (Datagram datagram l.next_tag) now (if small i then empty_draft l else with_next_tag (empty_draft l))) (how l dest))
+      ∙ (λ i. sealed alone sending_ends l (sets_out g.address dest note (Datagram datagram l.next_tag) now (cut.begun i)) (how l dest))
       ∙ (λ i. sealed alone sending_ends l (sets i) (how l dest))
       ∙ (λ i. sealed alone sending_ends l (body_is i) (how l dest))
       ∙ (λ i. if left i then refused sending_ends l sending_ends.spent else sealing alone sending_ends drafted (how l dest))
       ∙ (λ i. sealing alone sending_ends drafted (if is_some (route i) then how_of.Sent else how_of.Waiting))
 
-  pub sends_it : SendsIt (send l dest datagram note now) (Sealed (record {
-    to = hop;
-    from = g.address;
-    counter = l.counter.next;
-    index = g.active;
-    key = k;
-    unit = units.Whole (own_mesh g.address dest) datagram;
-    note = note;
-  }) ∷ [])
+  pub sends_it : SendsIt (send l dest datagram note now) (sealed_units g k l.counter.next (all_go hop note us))
   sends_it = record {
     answer_is = ap (λ (p : Sending). p.answer) plan_is;
     frames_is =

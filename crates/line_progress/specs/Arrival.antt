@@ -1,10 +1,12 @@
 -- That a datagram arrives where the links of its route hold: the nodes of a route, what holds of each link, and the events that bring a
 -- datagram along it.
-use Rattle.std.specs.Prelude.{◌≡◌, ◌≢◌, ℕ, ◌+◌, ◌≤◌, ◌<◌, false, nat_lt, List, [], ◌∷◌, length, map, Some, None, Ok}
+use Rattle.std.specs.Prelude.{◌≡◌, ◌≢◌, ℕ, zero, suc, ◌+◌, ◌*◌, ◌^◌, ◌≤◌, ◌<◌, false, nat_lt, List, [], ◌∷◌, ◌++◌, length, map, Some, None, Ok}
 use Rattle.plc_base.specs.Addresses.{IsAddress}
 use Rattle.plc_base.specs.declared.key.Key.{Key}
 use Rattle.plc_base.specs.Grant.{Granted, key_at}
 use Rattle.frame_counters.specs.PeerMarks.{room_for}
+use Rattle.fragment_buffers.specs.Fragmentation.{pieces_of}
+use Rattle.fragment_buffers.specs.Laws.{Awaits}
 use Rattle.node_rules.specs.Ciphers.{Ciphers, OpensWhatItSeals}
 use Rattle.node_rules.specs.Drafts.{sealing_key, counters_left}
 use Rattle.node_rules.specs.Memory.{Memory, Node, next_hop}
@@ -37,20 +39,20 @@ pub record IsReady (s : Stop) : Type 0 where
   pub index : s.granted.active ≤ 1
   pub key : sealing_key s.granted ≡ Some s.key
 
--- A link toward an address holds: the one node has a valid route to the address by the other, a counter, and a key that the other holds at
--- the same index; and the other admits that counter of it.
-pub record HasLink (dest : ℕ) (s t : Stop) : Type 0 where
+-- A link toward an address holds for so many frames: the one node has a valid route to the address by the other, as many counters, and a key
+-- that the other holds at the same index; and the other admits the first of these counters.
+pub record HasLink (frames dest : ℕ) (s t : Stop) : Type 0 where
   pub on : s.granted.address ≢ dest
   pub apart : t.granted.address ≢ s.granted.address
   pub route : next_hop s.memory.station dest ≡ Some t.granted.address
-  pub left : nat_lt (counters_left s.memory.station) 1 ≡ false
+  pub left : nat_lt (counters_left s.memory.station) frames ≡ false
   pub opens : key_at t.granted s.granted.active ≡ Some s.key
   pub admits : room_for t.memory.station.marks s.granted.address s.memory.station.counter.next ≡ Ok tt
 
 -- the links of a route hold, and its last node has the address
-abbrev pub HasRoute : ℕ → Stop → List Stop → Type 0
-HasRoute dest s [] = s.granted.address ≡ dest
-HasRoute dest s (t ∷ rest) = HasLink dest s t × HasRoute dest t rest
+abbrev pub HasRoute : (frames dest : ℕ) → Stop → List Stop → Type 0
+HasRoute frames dest s [] = s.granted.address ≡ dest
+HasRoute frames dest s (t ∷ rest) = HasLink frames dest s t × HasRoute frames dest t rest
 
 -- the nodes of a route are there, and ready
 abbrev pub AreReady : World → List Stop → Type 0
@@ -74,15 +76,31 @@ last_of s (t ∷ rest) = last_of t rest
 
 -- # What happens
 
--- each of these flights, numbered from the first on, comes to the next node of a route
-abbrev pub deliveries : ℕ → Stop → List Stop → List Event
-deliveries flight s [] = Deliver flight s.number s.cost ∷ []
-deliveries flight s (t ∷ rest) = Deliver flight s.number s.cost ∷ deliveries (flight + 1) t rest
+-- A flight comes to the first of these nodes, and each later one to the next node: those flights are numbered from another number on.
+abbrev pub deliveries : (flight next : ℕ) → Stop → List Stop → List Event
+deliveries flight next s [] = Deliver flight s.number s.cost ∷ []
+deliveries flight next s (t ∷ rest) = Deliver flight s.number s.cost ∷ deliveries next (next + 1) t rest
 
--- what the nodes of a route answer: each sends the datagram on, and the last one hands it up
-abbrev pub delivery_answers : Stop → List Stop → List Answer
-delivery_answers s [] = answers.Up ∷ []
-delivery_answers s (t ∷ rest) = answers.Relayed ∷ delivery_answers t rest
+-- So many flights, numbered from the first on, come to the last node, one after the other.
+abbrev pub all_deliveries : (frames flight next : ℕ) → Stop → List Stop → List Event
+all_deliveries zero flight next t rest = []
+all_deliveries (suc more) flight next t rest =
+    deliveries flight next t rest ++ all_deliveries more (flight + 1) (next + length rest) t rest
+
+-- what the nodes of a route answer: each sends a frame on, and the last one says this
+abbrev pub delivery_answers : Answer → List Stop → List Answer
+delivery_answers last [] = last ∷ []
+delivery_answers last (t ∷ rest) = answers.Relayed ∷ delivery_answers last rest
+
+-- what the last node says of a frame: more of the datagram is to come, or it is handed up
+abbrev pub last_answer : ℕ → Answer
+last_answer zero = answers.Up
+last_answer (suc more) = answers.Held
+
+-- what they answer to so many frames
+abbrev pub all_answers : ℕ → List Stop → List Answer
+all_answers zero rest = []
+all_answers (suc more) rest = delivery_answers (last_answer more) rest ++ all_answers more rest
 
 abbrev pub answers_of : List Entry → List Answer
 answers_of entries = map (λ (x : Entry). x.trace.happenings.answer) entries
@@ -95,22 +113,31 @@ pub record IsBrought (expected : List Answer) (target : ℕ) (datagram : List �
 
 -- # The law
 
--- A route may carry a datagram: its nodes are there and ready, none stands twice, each of its links holds, and they are 14 at most; the
--- datagram fits in one frame; and the run may have the events.
+-- The last node of a route may gather a datagram that the first one sends in pieces: it holds nothing under the name that they will have,
+-- whose tag is in its range, and has room for one reassembly more.
+pub record MayGather (s last : Stop) (datagram : List ℕ) : Type 0 where
+  pub tag : s.memory.station.next_tag < 2 ^ 16
+  pub awaits : Awaits last.memory.station.reassemblies s.granted.address datagram s.memory.station.next_tag
+
+-- A route may carry a datagram: its nodes are there and ready, none stands twice, each of its links holds for the frames of the datagram, and
+-- they are 14 at most; the last node may gather the pieces, where there are some; and the run may have the events.
 pub record MayCarry (w : World) (s t : Stop) (rest : List Stop) (datagram : List ℕ) : Type 0 where
   pub ready : AreReady w (s ∷ t ∷ rest)
   pub straight : IsStraight (s ∷ t ∷ rest)
-  pub route : HasRoute (last_of t rest).granted.address s (t ∷ rest)
+  pub route : HasRoute (pieces_of (length datagram)) (last_of t rest).granted.address s (t ∷ rest)
   pub some : 0 < length datagram
-  pub few : length datagram ≤ 375
+  pub few : length datagram ≤ 1280
   pub short : length rest ≤ 13
-  pub room : w.events + (2 + length rest) ≤ MAX_EVENTS
+  pub gathers : 376 ≤ length datagram → MayGather s (last_of t rest) datagram
+  pub room : w.events + (1 + pieces_of (length datagram) * (1 + length rest)) ≤ MAX_EVENTS
 
--- A datagram of 1 to 375 octets that a node sends along a route of at most 14 links that hold, each flight of which comes to the next node,
--- is handed up at the last one with the same octets, after one delivery for each link.
+-- A datagram of 1 to 1,280 octets that a node sends along a route of at most 14 links that hold, and each frame of which comes over all links
+-- before the next one, is handed up at the last node with the same octets, after one delivery of each frame for each link.
 abbrev pub DatagramsArrive : Type 0
 DatagramsArrive =
     (ciphers : Ciphers) → OpensWhatItSeals ciphers
     → (w : World) (s t : Stop) (rest : List Stop) (datagram : List ℕ) → MayCarry w s t rest datagram
-    → IsBrought (answers.Sent ∷ delivery_answers t rest) (last_of t rest).number datagram
-    (run ciphers w (Send s.number (last_of t rest).number datagram ∷ deliveries (length w.flights + 1) t rest))
+    → let frames = pieces_of (length datagram) in
+    let first = length w.flights + 1 in
+    IsBrought (answers.Sent ∷ all_answers frames rest) (last_of t rest).number datagram
+    (run ciphers w (Send s.number (last_of t rest).number datagram ∷ all_deliveries frames first (first + frames) t rest))

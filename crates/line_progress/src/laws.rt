@@ -10,8 +10,8 @@ ghost use Rattle.line_progress.specs.TimeFates.{TicksHaveFates, TimeComesToAll};
 ghost use Rattle.line_progress.specs.UnitFates.{DeliveriesHaveFates, UnitsHaveFates};
 ghost use Rattle.line_progress.specs.Ups.{DatagramsCame, StationsHandUp};
 
-/// A datagram of 1 to 375 octets that is sent along a route of at most 14 links that hold, and each flight of which comes to the next node,
-/// is handed up at the last one with the same octets, after one delivery for each link.
+/// A datagram of 1 to 1,280 octets that is sent along a route of at most 14 links that hold, whole or in pieces, each of which comes over all
+/// links before the next one, is handed up at the last node with the same octets, after one delivery of each frame for each link.
 pub fn datagrams_arrive()
     ensures { DatagramsArrive }
 {}

@@ -10,6 +10,7 @@ use Rattle.plc_base.specs.declared.key.Key.{Key}
 use Rattle.node_rules.specs.Ciphers.{OpensWhatItSeals}
 use Rattle.worked_scripts.proofs.Computing.{computed}
 use Rattle.worked_scripts.specs.ArrivalScripts.{TheRouteMayCarry, ADatagramArrives, EachNodeIsReady, EachLinkHolds, TheRouteIsStraight, TheRestIsNeeded}
+use Rattle.worked_scripts.specs.ArrivalScripts.{TheRouteMayCarryPieces, ADatagramInPiecesArrives, EachPieceNeedsACounter, PiecesNeedRoom, PiecesNeedTheirName}
 use Rattle.worked_scripts.specs.ArrivalScripts.{FourteenLinksCarry}
 use Rattle.worked_scripts.specs.Scripts.{plain, plain_tag, plainly_opened}
 
@@ -58,6 +59,35 @@ the_route_may_carry =
         (record { on = eqb-false _ _ refl; apart = eqb-false _ _ refl; route = refl; left = refl; opens = refl; admits = refl }, refl),
       );
       some = ltb-true _ _ refl;
+      gathers = λ long. absurd (omega arith);
+      few = leb-true _ _ refl;
+      short = leb-true _ _ refl;
+      room = leb-true _ _ refl;
+    }
+
+pub the_route_may_carry_pieces : TheRouteMayCarryPieces
+unfolding computed TheRouteMayCarryPieces
+the_route_may_carry_pieces =
+    record {
+      ready = (
+        refl,
+        record { memory = refl; spared = refl; ring = refl; address = ltb-true _ _ refl; index = leb-true _ _ refl; key = refl },
+        (
+          refl,
+          record { memory = refl; spared = refl; ring = refl; address = ltb-true _ _ refl; index = leb-true _ _ refl; key = refl },
+          (refl, record { memory = refl; spared = refl; ring = refl; address = ltb-true _ _ refl; index = leb-true _ _ refl; key = refl }, tt),
+        ),
+      );
+      straight = ((eqb-false _ _ refl, (eqb-false _ _ refl, tt)), ((eqb-false _ _ refl, tt), (tt, tt)));
+      route = (
+        record { on = eqb-false _ _ refl; apart = eqb-false _ _ refl; route = refl; left = refl; opens = refl; admits = refl },
+        (record { on = eqb-false _ _ refl; apart = eqb-false _ _ refl; route = refl; left = refl; opens = refl; admits = refl }, refl),
+      );
+      some = ltb-true _ _ refl;
+      gathers = λ long. record {
+        tag = ltb-true _ _ refl;
+        awaits = record { long = leb-true _ _ refl; none = refl; few = ltb-true _ _ refl; fits = leb-true _ _ refl };
+      };
       few = leb-true _ _ refl;
       short = leb-true _ _ refl;
       room = leb-true _ _ refl;
@@ -66,6 +96,10 @@ the_route_may_carry =
 pub a_datagram_arrives : ADatagramArrives
 unfolding computed ADatagramArrives
 a_datagram_arrives = (plain_opens, record { answers = refl; note = 2; up = refl }, refl)
+
+pub a_datagram_in_pieces_arrives : ADatagramInPiecesArrives
+unfolding computed ADatagramInPiecesArrives
+a_datagram_in_pieces_arrives = record { answers = refl; note = 2; up = refl }
 
 -- # A route that lacks one thing
 
@@ -84,6 +118,20 @@ the_route_is_straight = refl
 pub the_rest_is_needed : TheRestIsNeeded
 unfolding computed TheRestIsNeeded
 the_rest_is_needed = (refl, refl, refl, refl)
+
+-- # What pieces need
+
+pub each_piece_needs_a_counter : EachPieceNeedsACounter
+unfolding computed EachPieceNeedsACounter
+each_piece_needs_a_counter = (refl, refl, refl, refl)
+
+pub pieces_need_room : PiecesNeedRoom
+unfolding computed PiecesNeedRoom
+pieces_need_room = (refl, refl, refl, refl)
+
+pub pieces_need_their_name : PiecesNeedTheirName
+unfolding computed PiecesNeedTheirName
+pieces_need_their_name = (refl, refl, refl)
 
 pub fourteen_links_carry : FourteenLinksCarry
 unfolding computed FourteenLinksCarry

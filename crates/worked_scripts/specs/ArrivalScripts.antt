@@ -3,6 +3,7 @@ use Rattle.std.specs.Prelude.{◌≡◌, ℕ, ◌+◌, ◌-◌, false, List, [],
 use Rattle.std.specs.List.{range_with_len}
 use Rattle.std.specs.Option.{option_map, option_map_or}
 use Rattle.plc_base.specs.Grant.{Granted}
+use Rattle.fragment_buffers.specs.Reassembly.{Reassembly}
 use Rattle.frame_counters.specs.SendCounter as counter
 use Rattle.routing_set.specs.RoutingSet as routing
 use Rattle.node_rules.specs.Calls as calls
@@ -72,6 +73,32 @@ ADatagramArrives =
     OpensWhatItSeals plain
     × IsBrought (answers.Sent ∷ answers.Relayed ∷ answers.Up ∷ []) 3 (0xbb ∷ []) (run plain line_then (way (0xbb ∷ [])))
     × (answers_on plain line_then (replicate 375 7) ≡ answers.Sent ∷ answers.Relayed ∷ answers.Up ∷ [])
+
+-- # In two pieces
+
+-- a datagram of 376 octets, which goes in two pieces
+abbrev pub in_two : List ℕ
+in_two = replicate 376 7
+
+-- The route may carry it.
+unfoldable pub TheRouteMayCarryPieces : Type 0
+TheRouteMayCarryPieces = MayCarry line_then (stop_of line_then 1) (stop_of line_then 2) (stop_of line_then 3 ∷ []) in_two
+
+-- its events: it is sent, the first piece comes to its end, and then the second one
+abbrev pub way_in_two : List Event
+way_in_two = Send 1 3 in_two ∷ Deliver 6 2 1 ∷ Deliver 8 3 1 ∷ Deliver 7 2 1 ∷ Deliver 9 3 1 ∷ []
+
+-- what is answered to them
+abbrev pub in_two_with : (World → World) → List Answer
+in_two_with change = answers_of (run plain (change line_then) way_in_two)
+
+-- what is answered where it arrives
+abbrev pub in_two_arrived : List Answer
+in_two_arrived = answers.Sent ∷ answers.Relayed ∷ answers.Held ∷ answers.Relayed ∷ answers.Up ∷ []
+
+-- The datagram arrives.
+unfoldable pub ADatagramInPiecesArrives : Type 0
+ADatagramInPiecesArrives = IsBrought in_two_arrived 3 in_two (run plain line_then way_in_two)
 
 -- # A route that lacks one thing
 
@@ -152,13 +179,76 @@ TheRouteIsStraight =
     (answers_of (run plain (round line_then) (Send 1 3 (0xbb ∷ []) ∷ Deliver 6 2 1 ∷ Deliver 7 1 1 ∷ Deliver 8 4 1 ∷ Deliver 9 3 1 ∷ []))
     ≡ answers.Sent ∷ answers.Relayed ∷ answers.CounterSpent ∷ [])
 
--- Nor where the datagram is empty or has more than 375 octets, the run may not have the events, or the ciphers do not open what they seal.
+-- Nor where the datagram is empty or has more than 1,280 octets, the run may not have the events, or the ciphers do not open what they seal.
 unfoldable pub TheRestIsNeeded : Type 0
 TheRestIsNeeded =
     (answers_on plain line_then [] ≡ answers.BadSize ∷ [])
-    × (answers_on plain line_then (replicate 376 7) ≡ answers.Sent ∷ answers.Relayed ∷ answers.NotForMe ∷ [])
+    × (answers_on plain line_then (replicate 1281 7) ≡ answers.BadSize ∷ [])
     × (answers_with (λ w. record w { events = MAX_EVENTS - 2 }) ≡ answers.Sent ∷ answers.Relayed ∷ [])
     × (answers_on (record plain { opens = λ key head front body. None }) line_then (0xbb ∷ []) ≡ answers.Sent ∷ answers.BadTag ∷ [])
+
+-- # What pieces need
+
+-- whose node has only one counter left
+abbrev pub with_one_counter_at : ℕ → World → World
+with_one_counter_at number w = with_station_at number (λ l. record l { counter = counter.counting_at 4294967294 }) w
+
+-- A datagram in two pieces does not arrive where its origin or a node between has one counter left, though one in one frame does.
+unfoldable pub EachPieceNeedsACounter : Type 0
+EachPieceNeedsACounter =
+    (in_two_with (with_one_counter_at 1) ≡ answers.CounterSpent ∷ [])
+    × (in_two_with (with_one_counter_at 2) ≡ answers.Sent ∷ answers.Relayed ∷ answers.Held ∷ answers.CounterSpent ∷ [])
+    × (answers_with (with_one_counter_at 1) ≡ answers.Sent ∷ answers.Relayed ∷ answers.Up ∷ [])
+    × (answers_with (with_one_counter_at 2) ≡ answers.Sent ∷ answers.Relayed ∷ answers.Up ∷ [])
+
+-- a reassembly of a datagram of so many octets from another origin
+abbrev pub other_of : ℕ → Reassembly
+other_of size = record { origin = 9; size = size; tag = 0; note = 0; since = 0; pieces = [] }
+
+-- whose meter 3 gathers others
+abbrev pub with_others : List Reassembly → World → World
+with_others others w = with_station_at 3 (λ l. record l { reassemblies = others }) w
+
+-- what is answered where there is no room for its pieces
+abbrev pub in_two_full : List Answer
+in_two_full = answers.Sent ∷ answers.Relayed ∷ answers.BufferFull ∷ answers.Relayed ∷ answers.BufferFull ∷ []
+
+-- Nor where its target gathers 8 datagrams, or has 5 of its 80 blocks left where the datagram takes 6. It does where one is less.
+unfoldable pub PiecesNeedRoom : Type 0
+PiecesNeedRoom =
+    (in_two_with (with_others (replicate 8 (other_of 64))) ≡ in_two_full)
+    × (in_two_with (with_others (other_of 1280 ∷ other_of 1280 ∷ other_of 1280 ∷ other_of 960 ∷ [])) ≡ in_two_full)
+    × (in_two_with (with_others (replicate 7 (other_of 64))) ≡ in_two_arrived)
+    × (in_two_with (with_others (other_of 1280 ∷ other_of 1280 ∷ other_of 1280 ∷ other_of 896 ∷ [])) ≡ in_two_arrived)
+
+-- a piece that is left of an older datagram of the name that the next one from meter 1 has, in the place of the last one
+abbrev pub left_over : List Reassembly
+left_over =
+    record {
+      origin = 1;
+      size = 376;
+      tag = 0;
+      note = 0;
+      since = 0;
+      pieces = record { start = 368; octets = replicate 8 9 } ∷ [];
+    }
+    ∷ []
+
+-- whose meter 1 takes this tag next
+abbrev pub with_tag : ℕ → World → World
+with_tag tag w = with_station_at 1 (λ l. record l { next_tag = tag }) w
+
+-- what is answered where the first piece makes another datagram whole
+abbrev pub in_two_mixed : List Answer
+in_two_mixed = answers.Sent ∷ answers.Relayed ∷ answers.Up ∷ answers.Relayed ∷ answers.Held ∷ []
+
+-- Nor where its target holds a piece under its name, also where the tag is out of its range and is that name's in 16 bits. It does where its
+-- tag is another one.
+unfoldable pub PiecesNeedTheirName : Type 0
+PiecesNeedTheirName =
+    (in_two_with (with_others left_over) ≡ in_two_mixed)
+    × (in_two_with (λ w. with_others left_over (with_tag 65536 w)) ≡ in_two_mixed)
+    × (in_two_with (λ w. with_others left_over (with_tag 1 w)) ≡ in_two_arrived)
 
 -- # A long route
 

@@ -1,5 +1,7 @@
 //! A datagram arrives along a route that may carry it; where the route lacks one thing alone, it does not.
 ghost use Rattle.worked_scripts.specs.ArrivalScripts.{TheRouteMayCarry, ADatagramArrives};
+ghost use Rattle.worked_scripts.specs.ArrivalScripts.{TheRouteMayCarryPieces, ADatagramInPiecesArrives, EachPieceNeedsACounter};
+ghost use Rattle.worked_scripts.specs.ArrivalScripts.{PiecesNeedRoom, PiecesNeedTheirName};
 ghost use Rattle.worked_scripts.specs.ArrivalScripts.{EachNodeIsReady, EachLinkHolds, TheRouteIsStraight, TheRestIsNeeded, FourteenLinksCarry};
 
 /// A route that was found may carry a datagram of one octet.
@@ -12,6 +14,18 @@ pub fn the_route_may_carry()
 #[tactic(auto, using(crate::proofs::ArrivalScripts::a_datagram_arrives))]
 pub fn a_datagram_arrives()
     ensures { ADatagramArrives }
+{}
+
+/// The route may carry a datagram in two pieces.
+#[tactic(auto, using(crate::proofs::ArrivalScripts::the_route_may_carry_pieces))]
+pub fn the_route_may_carry_pieces()
+    ensures { TheRouteMayCarryPieces }
+{}
+
+/// It arrives along this route, piece by piece.
+#[tactic(auto, using(crate::proofs::ArrivalScripts::a_datagram_in_pieces_arrives))]
+pub fn a_datagram_in_pieces_arrives()
+    ensures { ADatagramInPiecesArrives }
 {}
 
 /// A datagram does not arrive where a node of the route is not there, is halted, loses power or is not joined, where its address or its index
@@ -34,10 +48,28 @@ pub fn the_route_is_straight()
     ensures { TheRouteIsStraight }
 {}
 
-/// Nor where the datagram is empty or has more than 375 octets, the run may not have the events, or the ciphers do not open what they seal.
+/// Nor where the datagram is empty or has more than 1,280 octets, the run may not have the events, or the ciphers do not open what they seal.
 #[tactic(auto, using(crate::proofs::ArrivalScripts::the_rest_is_needed))]
 pub fn the_rest_is_needed()
     ensures { TheRestIsNeeded }
+{}
+
+/// Nor a datagram in two pieces where its origin or a node between has one counter left.
+#[tactic(auto, using(crate::proofs::ArrivalScripts::each_piece_needs_a_counter))]
+pub fn each_piece_needs_a_counter()
+    ensures { EachPieceNeedsACounter }
+{}
+
+/// Nor where its target gathers 8 datagrams already, or has too few blocks left.
+#[tactic(auto, using(crate::proofs::ArrivalScripts::pieces_need_room))]
+pub fn pieces_need_room()
+    ensures { PiecesNeedRoom }
+{}
+
+/// Nor where its target holds a piece under its name, or its tag is out of its range.
+#[tactic(auto, using(crate::proofs::ArrivalScripts::pieces_need_their_name))]
+pub fn pieces_need_their_name()
+    ensures { PiecesNeedTheirName }
 {}
 
 /// A datagram arrives over 14 links, and ends for want of hops where there are 15.

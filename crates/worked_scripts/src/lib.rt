@@ -18,12 +18,17 @@ mod waiting_scripts;
 mod way_scripts;
 
 pub use arrival_scripts::a_datagram_arrives;
+pub use arrival_scripts::a_datagram_in_pieces_arrives;
 pub use arrival_scripts::each_link_holds;
 pub use arrival_scripts::each_node_is_ready;
+pub use arrival_scripts::each_piece_needs_a_counter;
 pub use arrival_scripts::fourteen_links_carry;
+pub use arrival_scripts::pieces_need_room;
+pub use arrival_scripts::pieces_need_their_name;
 pub use arrival_scripts::the_rest_is_needed;
 pub use arrival_scripts::the_route_is_straight;
 pub use arrival_scripts::the_route_may_carry;
+pub use arrival_scripts::the_route_may_carry_pieces;
 pub use call_scripts::bad_lines_have_their_reasons;
 pub use call_scripts::calls_need_addresses;
 pub use call_scripts::eight_random_values_are_held;
