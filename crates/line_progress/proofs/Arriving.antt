@@ -1,6 +1,6 @@
 -- A datagram arrives along a route that may carry it: by induction on its frames.
-use Rattle.std.proofs.Common.{◌≡◌, ℕ, zero, suc, ◌+◌, ◌*◌, ◌<◌, ◌≤◌, ◌⊎◌, inl, inr, Bool, true, false, ◌||◌, List, [], ◌∷◌, ◌++◌, length, map, Option, Some, None, Ok}
-use Rattle.std.proofs.Common.{refl, sym, ap, subst, ◌∙◌, arith, suc-mul}
+use Rattle.std.proofs.Common.{◌≡◌, ℕ, zero, suc, ◌+◌, ◌*◌, ◌<◌, ◌≤◌, ◌⊎◌, inl, inr, Bool, true, false, ◌||◌, List, [], ◌∷◌, ◌++◌, length, map}
+use Rattle.std.proofs.Common.{Option, Some, None, Ok, refl, sym, ap, subst, ◌∙◌, arith, suc-mul}
 use Rattle.std.specs.Prelude.{if◌then◌else◌, nat_le, nat_lt, slice_get, ◌==◌}
 use Rattle.std.specs.Int.{div_ceil}
 use Rattle.std.specs.List.{range_with_len}
@@ -75,7 +75,8 @@ module _ (ciphers : Ciphers) (opens : OpensWhatItSeals ciphers) (frames dest ori
     (datagram : List ℕ) (contents : ℕ → Content) (fits : (k : ℕ) → k < frames → IsContent (contents k)) (Held : ℕ → List Reassembly → Type 0)
     (ends : (sent more : ℕ) → sent + (more + 1) ≡ frames → (held : List Reassembly) → Held sent held → (l : StationMemory) (note now : ℕ)
     → l.reassemblies ≡ held → Ends (contents sent) origin (last_answer more) (Held (sent + 1)) (IsHanded datagram more) l note now)
-    (s t : Stop) (rest : List Stop) (base : ℕ) (fit : AreFit (s ∷ t ∷ rest)) (straight : IsStraight (t ∷ rest)) (route : HasRoute frames dest s (t ∷ rest)) where
+    (s t : Stop) (rest : List Stop) (base : ℕ) (fit : AreFit (s ∷ t ∷ rest)) (straight : IsStraight (t ∷ rest))
+    (route : HasRoute frames dest s (t ∷ rest)) where
   -- the frames fly to the first node after the sender
   abbrev AllFly : World → Type 0
   AllFly w = (k : ℕ) → k < frames → IsUnderWay ciphers w (base + k) dest origin k s t (contents k) (length rest)
@@ -309,7 +310,8 @@ module _ (ciphers : Ciphers) (opens : OpensWhatItSeals ciphers) (w : World) (s t
         subst (λ n. IsBrought (all_answers n rest) z.number datagram
         (run ciphers r.0 (all_deliveries n (length w.flights + 1) ((length w.flights + 1) + frames) t rest))) (sym some_frames) brought in
         let said = says_first (record { number = w.events + 1; event = event; trace = r.1; after = r.0 }) answers.Sent None (all_answers frames rest)
-        (record { node = z.number; note = ahead.note; octets = datagram } ∷ []) (run ciphers r.0 (all_deliveries frames (length w.flights + 1) ((length w.flights + 1) + frames) t rest)) out.answer_is out.up_is
+        (record { node = z.number; note = ahead.note; octets = datagram } ∷ [])
+        (run ciphers r.0 (all_deliveries frames (length w.flights + 1) ((length w.flights + 1) + frames) t rest)) out.answer_is out.up_is
         (record { answers = ahead.answers; handed_is = ahead.up }) in
         let whole = runs_on ciphers w event (all_deliveries frames (length w.flights + 1) ((length w.flights + 1) + frames) t rest) r
         (omega (arith, room)) step in
