@@ -20,6 +20,9 @@ loader = importlib.machinery.SourceFileLoader("export", os.path.join(HERE, "expo
 export = importlib.util.module_from_spec(importlib.util.spec_from_loader("export", loader))
 loader.exec_module(export)
 
+# Which has the checks of the public calls of nodes.
+PAGE = os.path.join(export.TOP, "docs/A-METER-IN-YOUR-DEVICE.md")
+
 
 def plain(source, crate="some", is_root=False, file="some.rt"):
     """The export of a text, and its counts."""
@@ -301,7 +304,7 @@ class BorderOfTheNodes(unittest.TestCase):
         self.assertEqual(sorted(set(tested)), sorted(self.checked))
 
     def test_each_stands_in_the_page(self):
-        rows = re.findall(r"^\| (`\w+::.*`) \| (.*) \|$", read(os.path.join(export.TOP, "docs/IN-YOUR-FIRMWARE.md")), re.MULTILINE)
+        rows = re.findall(r"^\| (`\w+::.*`) \| (.*) \|$", read(PAGE), re.MULTILINE)
         of = {"Station": "plc_station", "Meter": "meter_node", "Coordinator": "coordinator"}
         said = [f"{of[kind]}: {call}: {clause}" for calls, words in rows for kind, call in re.findall(r"`(\w+)::(\w+)`", calls)
                 for clause in re.findall(r"`(\w+)`", words)]
@@ -318,7 +321,7 @@ class BorderOfTheNodes(unittest.TestCase):
 
     def test_what_is_not_checked_is_that_memory_and_store_agree(self):
         self.assertEqual({it.split(": ")[2] for it in self.unchecked}, {"agrees"})
-        self.assertIn(f"{len(self.unchecked)} calls require it", read(os.path.join(export.TOP, "docs/IN-YOUR-FIRMWARE.md")))
+        self.assertIn(f"{len(self.unchecked)} calls require it", read(PAGE))
 
 
 class Exports(unittest.TestCase):

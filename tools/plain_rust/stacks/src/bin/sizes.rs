@@ -1,4 +1,4 @@
-//! A variable of each type whose size `docs/CRATES.md` has, nodes without their keepers.
+//! A variable of each type whose size `docs/A-METER-IN-YOUR-DEVICE.md` has, nodes without their keepers.
 #![cfg_attr(target_os = "none", no_std, no_main)]
 
 #[cfg(not(target_os = "none"))]
