@@ -1,6 +1,5 @@
 pub mod Asked
 pub mod Claims
-pub mod Counters
 pub mod Flights
 pub mod Heards
 pub mod Joined

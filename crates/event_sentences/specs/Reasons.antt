@@ -51,17 +51,6 @@ plain_refusal answers.NoRoute = codes "there is no route"
 plain_refusal answers.NoBeacon = codes "fewer agents were heard"
 plain_refusal a = answer_word a
 
--- whether a frame that was answered so was taken as far as its counter
-abbrev pub raised_the_mark : Answer → Bool
-raised_the_mark answers.NotForMe = false
-raised_the_mark answers.Halted = false
-raised_the_mark answers.Store = false
-raised_the_mark answers.NoKey = false
-raised_the_mark answers.BadTag = false
-raised_the_mark answers.Replayed = false
-raised_the_mark answers.PeersFull = false
-raised_the_mark _ = true
-
 -- which keys a node holds: at index 0, at index 1
 abbrev pub held_keys : Bool → Bool → List ℕ
 held_keys true true = codes "; it holds index 0, 1"

@@ -1,15 +1,15 @@
 -- What is kept of a node beside what it shows.
-use Rattle.std.specs.Prelude.{ℕ, ◌==◌, Bool, List, [], if◌then◌else◌}
+use Rattle.std.specs.Prelude.{ℕ, ◌==◌, Bool, true, false, nat_lt, List, [], if◌then◌else◌}
 use Rattle.std.specs.Ordering.{nat_cmp}
 use Rattle.std.specs.Option.{unwrap_or}
 use Rattle.std.specs.BTreeMap.{insert_entry, is_at}
 use Rattle.std.specs.Map.{lookup}
-use Rattle.line_events.specs.declared.event.Answer.{Answer}
 use Rattle.line_tale.specs.declared.act.Act.{Act}
 use Rattle.line_tale.specs.declared.act.Act.TheVariants as acts
+use Rattle.line_tale.specs.declared.told.TaleEvent.{TaleEvent}
+use Rattle.line_tale.specs.Kinds.{takes_counter}
 use Rattle.node_rules.specs.declared.shown.ShownRoute.{ShownRoute}
 use Rattle.event_sentences.specs.declared.watch.Coming.{Coming}
-use Rattle.event_sentences.specs.Reasons.{raised_the_mark}
 use Rattle.event_sentences.specs.RouteEnds.{Routes, no_routes, routes_after}
 
 -- # Comings
@@ -44,9 +44,12 @@ unwatched = record { routes = no_routes; comings = []; restarted = 0 }
 abbrev pub looked : ℕ → List ShownRoute → Watched → Watched
 looked event shown watched = record watched { routes = routes_after event shown watched.routes }
 
--- after an event of the node
-abbrev pub noted : Act → Answer → ℕ → Watched → Watched
-noted (acts.Deliver flight node cost) a event watched =
-    record watched { comings = comings_with flight event (raised_the_mark a) watched.comings }
-noted (acts.Restart node) a event watched = record watched { restarted = event }
-noted _ a event watched = watched
+abbrev pub is_restart : Act → Bool
+is_restart (acts.Restart node) = true
+is_restart _ = false
+
+-- after an event of the node: a flight came to it, by a delivery or by its octets, or it restarted
+abbrev pub noted : TaleEvent → ℕ → Watched → Watched
+noted e event watched =
+    if nat_lt 0 e.came then record watched { comings = comings_with e.came event (takes_counter e.answer) watched.comings }
+    else (if is_restart e.act then record watched { restarted = event } else watched)

@@ -15,7 +15,6 @@
 
 mod asked;
 mod claim;
-mod counters;
 mod flights;
 mod heard;
 mod joined;
@@ -29,7 +28,6 @@ mod taken;
 mod watch;
 
 pub use claim::Deed;
-pub use counters::Counters;
 pub use heard::{DrawnKey, Heard, heard_flight, heard_octets};
 pub use laws::{says_one, ups_are_true};
 pub use moment::Moment;

@@ -7,11 +7,10 @@ ghost use Rattle.event_sentences.specs.Scenes as scenes;
 ghost use Rattle.event_sentences.specs.Scenes.{scene_of};
 ghost use Rattle.event_sentences.specs.Texts as texts;
 
-use crate::counters::Counters;
 use crate::flights::{Meant, bracketed, first_target, leaving, meant_numbers, named};
 use crate::heard::Heard;
 use crate::watch::Watch;
-use line_tale::{TaleEvent, TaleFlight};
+use line_tale::{Counters, TaleEvent, TaleFlight};
 use node_rules::{Shown, ShownRoute};
 use plc_base::Eui;
 use sentence_parts::{Part, Who, number, place, push_parts, who_at, words};

@@ -5,22 +5,6 @@ ghost use Rattle.event_sentences.specs.Reasons as reasons;
 use line_events::Answer;
 use line_script::answer_word;
 
-/// Whether a frame that was answered so was taken as far as its counter.
-pub fn raised_the_mark(answer: Answer) -> bool
-    ensures { result ≡ reasons.raised_the_mark answer }
-{
-    match answer {
-        Answer::NotForMe => false,
-        Answer::Halted => false,
-        Answer::Store => false,
-        Answer::NoKey => false,
-        Answer::BadTag => false,
-        Answer::Replayed => false,
-        Answer::PeersFull => false,
-        _ => true,
-    }
-}
-
 /// What a refused frame is refused for, where the sentence is always the same.
 pub fn plain_reason(answer: Answer) -> &'static str
     ensures { result.now ≡ reasons.plain_reason answer }

@@ -88,7 +88,7 @@ impl<'a> Moment<'a> {
     fn overtaken(&self, from: u16, mark: u32) -> Result<String, AllocError>
         ensures { IfOk result (λ text. string_bytes text ≡ spec_replayed.overtaken_text from mark (scene_of self.now)) }
     {
-        let other = self.counters.flight(from, mark);
+        let other = self.counters.flight(from, mark) as usize;
         let came = self.first_coming(other);
         if came == 0 {
             return self.stored(mark);

@@ -3,9 +3,8 @@ ghost use Rattle.std.specs.Prelude.{◌≡◌, [], IfOk, OnOk};
 ghost use Rattle.event_sentences.specs.RouteEnds as spec_ends;
 ghost use Rattle.event_sentences.specs.Watches as spec_watches;
 
-use crate::reasons::raised_the_mark;
 use crate::route_ends::RouteEnds;
-use line_tale::{Act, TaleEvent};
+use line_tale::{Act, TaleEvent, takes_counter};
 use node_rules::ShownRoute;
 use std::alloc::{AllocError, Global};
 use std::collections::BTreeMap;
@@ -42,6 +41,15 @@ fn come_again(event: usize, taken: bool, old: Coming) -> Coming
     Coming {
         first: if old.first == 0 { event } else { old.first },
         taken: if taken { event } else { old.taken },
+    }
+}
+
+fn is_restart(act: &Act) -> bool
+    ensures { result ≡ spec_watches.is_restart act.now }
+{
+    match act {
+        Act::Restart { .. } => true,
+        _ => false,
     }
 }
 
@@ -129,19 +137,17 @@ impl Watch {
     ///
     /// It fails only where memory runs out, and nothing changes then.
     pub fn note(&mut self, event: usize, told: &TaleEvent) -> Result<(), AllocError>
-        ensures { OnOk result (self.new ≡ spec_watches.noted told.now.act told.now.answer event self.old) }
+        ensures { OnOk result (self.new ≡ spec_watches.noted told.now event self.old) }
     {
-        match &told.act {
-            Act::Deliver { flight, .. } => {
-                self.comings
-                    .push(*flight, event, raised_the_mark(told.answer))
-            }
-            Act::Restart { .. } => {
-                self.restarted = event;
-                Ok(())
-            }
-            _ => Ok(()),
+        if told.came > 0 {
+            return self
+                .comings
+                .push(told.came, event, takes_counter(told.answer));
         }
+        if is_restart(&told.act) {
+            self.restarted = event;
+        }
+        Ok(())
     }
 
     /// The event at which the route to an address ended, 0 where it is valid or never was.

@@ -7,7 +7,7 @@ use Rattle.line_tale.specs.declared.story.Story.{Story}
 use Rattle.line_tale.specs.Kinds.{joins, readies}
 use Rattle.line_tale.specs.Tales.{made_by}
 use Rattle.line_stories.specs.Stories.{Stories, no_stories, settled_by, settled, next_event, with_line, line_number, unready, number_at, place_of, recorded}
-use Rattle.line_stories.specs.Stories.{event_by, event_seen, flight_seen, flights_seen, told_seen}
+use Rattle.line_stories.specs.Stories.{announced, event_by, event_seen, flight_seen, flights_seen, kept_seen, told_seen}
 use Rattle.line_stories.specs.Stories.{events_seen, ended, stories_of, ready_owners, last_owner}
 use Rattle.line_stories.specs.Laws.{EventsAreOwned}
 
@@ -38,10 +38,24 @@ recorded_count : (e : TaleEvent) (n story : ℕ) (s : Stories) → seen (recorde
 unfolding recorded
 recorded_count e n story s = refl
 
+kept_count : (e : TaleEvent) (n story : ℕ) (s : Stories) → seen (kept_seen e n story s) ≡ seen s
+unfolding kept_seen
+kept_count e n story s = refl
+
+announced_count : (e : TaleEvent) (flights : List TaleFlight) (s : Stories) → seen (announced e flights s) ≡ seen s
+unfolding announced
+announced_count e flights s = refl
+
+flight_count : (f : TaleFlight) (s : Stories) → seen (flight_seen f s) ≡ seen s
+unfolding flight_seen
+flight_count f s = refl
+
 event_count_by : (o : Option ℕ) (e : TaleEvent) (s : Stories) → seen (event_by o e s) ≡ seen s + 1
 event_count_by (Some node) e s = omega (arith, length-append s.ready (node ∷ []))
 event_count_by None e s =
-    recorded_count e (length (settled e.act s).owners) (last_owner (settled e.act s).owners) (settled e.act s) ∙ settled_count e.act s
+    let n = length (settled e.act s).owners in
+    let story = last_owner (settled e.act s).owners in
+    kept_count e n story (recorded e n story (settled e.act s)) ∙ recorded_count e n story (settled e.act s) ∙ settled_count e.act s
 
 event_count : (e : TaleEvent) (s : Stories) → seen (event_seen e s) ≡ seen s + 1
 unfolding event_seen
@@ -49,12 +63,13 @@ event_count e s = event_count_by (readies e.act) e s
 
 flights_count : (fs : List TaleFlight) (s : Stories) → seen (flights_seen fs s) ≡ seen s
 flights_count [] s = refl
-flights_count (f ∷ fs) s = flights_count fs (flight_seen f s)
+flights_count (f ∷ fs) s = flights_count fs (flight_seen f s) ∙ flight_count f s
 
 -- an event and its flights
 one_more : (e : TaleEvent) (flights : List TaleFlight) (s : Stories) → seen (told_seen e flights s) ≡ seen s + 1
 unfolding told_seen
-one_more e flights s = flights_count (made_by e flights) (event_seen e s) ∙ event_count e s
+one_more e flights s =
+    flights_count (made_by e flights) (announced e flights (event_seen e s)) ∙ announced_count e flights (event_seen e s) ∙ event_count e s
 
 events_count : (flights : List TaleFlight) (es : List TaleEvent) (s : Stories) → seen (events_seen flights es s) ≡ seen s + length es
 events_count flights [] s = omega arith

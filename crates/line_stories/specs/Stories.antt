@@ -1,5 +1,5 @@
 -- Which story owns which event and which flight of a tale.
-use Rattle.std.specs.Prelude.{ℕ, ◌+◌, ◌-◌, ◌==◌, ◌||◌, Bool, true, false, not, List, [], ◌∷◌, ◌++◌, length, position, slice_get, slice_set}
+use Rattle.std.specs.Prelude.{ℕ, ◌+◌, ◌-◌, ◌==◌, ◌&&◌, ◌||◌, Bool, true, false, not, List, [], ◌∷◌, ◌++◌, length, position, slice_get, slice_set}
 use Rattle.std.specs.Prelude.{Option, None, Some, if◌then◌else◌}
 use Rattle.frame_words.specs.declared.gist.FrameTarget.{FrameTarget}
 use Rattle.frame_words.specs.declared.gist.FrameTarget.TheVariants as targets
@@ -19,9 +19,14 @@ use Rattle.line_tale.specs.declared.lot.Lot.{Lot}
 use Rattle.line_tale.specs.declared.lot.Fate.TheVariants as fates
 use Rattle.line_stories.specs.declared.place.Place.{Place}
 use Rattle.line_stories.specs.declared.place.Place.TheVariants.{At, New}
-use Rattle.line_tale.specs.Kinds.{begins, goes_on_with, is_line, is_setup, is_setup_kind, joins, keeps_joinings, makes_node, person_of, readies, sends}
+use Rattle.line_tale.specs.Kinds.{actor_of, begins, goes_on_with, is_line, is_setup, is_setup_kind}
+use Rattle.line_tale.specs.Kinds.{joins, keeps_joinings, makes_node, person_of, readies, sends}
 use Rattle.line_tale.specs.Lists.{changed_at}
-use Rattle.line_tale.specs.Marks.{came, lots_by, marked, new_story}
+use Rattle.line_tale.specs.declared.kept.Kept.{Kept}
+use Rattle.line_tale.specs.Keeping.{may_end}
+use Rattle.line_tale.specs.Marks.{came, is_node, lots_by, marked, new_story}
+use Rattle.line_stories.specs.Keepings.{handed_up, is_joining, keeping_begun, keeping_left, message_about, message_kept, piece_kept, still_kept}
+use Rattle.line_stories.specs.Keepings.{stories_begun, stories_ended, stories_left, waiting_kept, waiting_story}
 
 -- # What is known while a tale is gone through
 
@@ -40,9 +45,27 @@ pub record Stories : Type 0 where
   pub homes : List ℕ
   -- what the last events readied, which have no story so far: the nodes, 0 for the coordinator
   pub ready : List ℕ
+  -- the flight that came at the last event, 0 where none did
+  pub came : ℕ
+  -- what nodes keep of stories, in the order in which that began
+  pub keeping : List Kept
+  -- the meter that the joining message is about which the last event made
+  pub message : Option ℕ
 
 abbrev pub no_stories : Stories
-no_stories = record { stories = []; owners = []; lots = []; sent = []; joinings = []; homes = []; ready = [] }
+no_stories =
+    record {
+      stories = [];
+      owners = [];
+      lots = [];
+      sent = [];
+      joinings = [];
+      homes = [];
+      ready = [];
+      came = 0;
+      keeping = [];
+      message = None;
+    }
 
 -- # The story of an event
 
@@ -192,18 +215,54 @@ recorded e n story s =
     let sent = sent_with (sends e.act e.answer) story s.sent in
     record s {
       stories = up_marked e.up n sent (changed_at story (marked n e) s.stories);
-      lots = lots_by e.act n e.answer s.lots;
+      lots = lots_by e n s.lots;
       sent = sent;
       joinings = nodes_with (makes_node e.act) (joinings_with (joins e.act) story s.joinings);
       homes = homes_with (newcomer (length s.homes) e.act e.answer e.address) s.homes;
+      came = e.came;
     }
+
+-- # What nodes keep
+
+-- with what an event ends
+abbrev pub kept_ended : TaleEvent → ℕ → Stories → Stories
+kept_ended e n s =
+    record s {
+      stories = if may_end e then stories_ended n e s.keeping s.stories else s.stories;
+      keeping = if may_end e then still_kept n e s.keeping else s.keeping;
+    }
+
+-- with something that begins to be kept
+abbrev pub kept_begun : Option Kept → Stories → Stories
+kept_begun kept s = record s { stories = stories_begun kept s.stories; keeping = keeping_begun kept s.keeping }
+
+abbrev pub up_by : Option ℕ → ℕ → List Kept → List Kept
+up_by None node keeping = keeping
+up_by (Some story) node keeping = handed_up story node keeping
+
+-- without the pieces of a datagram that is handed up at a node
+abbrev pub up_keeping : Option ℕ → ℕ → List ℕ → List Kept → List Kept
+up_keeping None node sent keeping = keeping
+up_keeping (Some note) node sent keeping = up_by (numbered sent note) node keeping
+
+abbrev pub up_kept : TaleEvent → Stories → Stories
+up_kept e s = record s { keeping = up_keeping e.up (actor_of e.act) s.sent s.keeping }
+
+abbrev pub piece_begun : TaleEvent → ℕ → Stories → Stories
+piece_begun e n s = kept_begun (piece_kept e n s.lots s.keeping) s
+
+-- what an event of this number makes of what is kept, but for joining messages
+unfoldable pub kept_seen : TaleEvent → ℕ → ℕ → Stories → Stories
+kept_seen e n story s = piece_begun e n (kept_begun (waiting_kept e n story) (up_kept e (kept_ended e n s)))
+
+-- # One event and its story
 
 -- an event that readies something has no story so far
 abbrev pub event_by : Option ℕ → TaleEvent → Stories → Stories
 event_by (Some node) e s = record s { ready = s.ready ++ (node ∷ []); homes = homes_with (newcomer (length s.homes) e.act e.answer e.address) s.homes }
 event_by None e s =
     let owned = settled e.act s in
-    recorded e (length owned.owners) (last_owner owned.owners) owned
+    kept_seen e (length owned.owners) (last_owner owned.owners) (recorded e (length owned.owners) (last_owner owned.owners) owned)
 
 unfoldable pub event_seen : TaleEvent → Stories → Stories
 event_seen e s = event_by (readies e.act) e s
@@ -217,13 +276,14 @@ node_of targets.All device homes = None
 node_of (targets.Node address) device homes = slice_get homes address
 node_of (targets.Device eui) device homes = device
 
-abbrev pub is_joining : Gist → Bool
-is_joining (gists.Joins eui) = true
-is_joining _ = false
-
 abbrev pub keeps_at : Option Story → Bool
 keeps_at None = false
 keeps_at (Some story) = keeps_joinings story.kind
+
+-- whether joining messages about a meter stay with a story
+abbrev pub keeps_for : Option Story → Option ℕ → Bool
+keeps_for None about = false
+keeps_for (Some story) about = keeps_joinings story.kind && is_node about story.person
 
 -- a story, or another one where there is one
 abbrev pub or_story : Option ℕ → ℕ → ℕ
@@ -234,25 +294,77 @@ abbrev pub joining_of : Option ℕ → List ℕ → Option ℕ
 joining_of None joinings = None
 joining_of (Some node) joinings = slice_get joinings node
 
--- the story that owns a flight which an event of a story made: that of the send which it carries, or the last joining of the device which
--- a joining message is about
+-- the story of a joining message about a meter that an event of a story makes: that one, where it is about that meter, or the last joining of the meter
+unfoldable pub message_story : Option ℕ → ℕ → Stories → ℕ
+message_story about story s =
+    if keeps_for (numbered s.stories story) about then story else or_story (joining_of about s.joinings) story
+
+abbrev pub is_own : Option ℕ → Option ℕ → Bool
+is_own None device = false
+is_own (Some about) device = is_node device about
+
+abbrev pub owner_or : Option ℕ → ℕ → ℕ
+owner_or None story = story
+owner_or (Some other) story = other
+
+-- the story of a joining message that flies: that of the first that waited there, unless the event itself made one about that meter
+unfoldable pub message_owner : TaleFlight → ℕ → Stories → ℕ
+message_owner f story s =
+    if is_own s.message f.device then message_story f.device story s
+    else owner_or (waiting_story f.from f.device s.keeping) (message_story f.device story s)
+
+-- the story that owns a flight which an event of a story made: that of the send which it carries, or of the joining message
 unfoldable pub flight_owner : TaleFlight → ℕ → Stories → ℕ
 flight_owner f story s =
-    if f.note == 0
-    then (if is_joining f.gist then (if keeps_at (numbered s.stories story) then story else or_story (joining_of f.device s.joinings) story) else story)
-    else or_story (numbered s.sent f.note) story
+    if f.note == 0 then (if is_joining f.gist then message_owner f story s else story) else or_story (numbered s.sent f.note) story
 
-abbrev pub flight_seen : TaleFlight → Stories → Stories
-flight_seen f s =
+-- whether a flight carries the datagram of a story, or a piece of it, or a joining message of it
+abbrev pub bears_of : TaleFlight → Option Story → Bool
+bears_of f story = if f.note == 0 then (if is_joining f.gist then keeps_at story else false) else true
+
+-- whether a flight may have waited for a route
+abbrev pub may_leave : TaleFlight → Bool
+may_leave f = if f.note == 0 then is_joining f.gist else true
+
+-- the search for a route that a flight is of with this number, by that of the flight for which it is sent: a request that its sender begins is the first
+-- of a search, and its copies and the replies are of the same
+abbrev pub search_of : Gist → ℕ → ℕ → ℕ
+search_of (gists.Seeks origin sought cost) number search = if cost == 0 then number else search
+search_of (gists.Replies origin to) number search = search
+search_of _ number search = 0
+
+abbrev pub search_at : Option Lot → ℕ
+search_at None = 0
+search_at (Some lot) = lot.search
+
+-- the stories and what is kept, where a flight of a story goes out
+abbrev pub left_by : TaleFlight → ℕ → List Kept → List Story → List Story
+left_by f owner keeping stories = if may_leave f then stories_left owner f.from keeping stories else stories
+
+abbrev pub leaving_by : TaleFlight → ℕ → List Kept → List Kept
+leaving_by f owner keeping = if may_leave f then keeping_left owner f.from keeping else keeping
+
+-- where a flight of a story goes out for which something waited, it has left
+abbrev pub let_leave : TaleFlight → ℕ → Stories → Stories
+let_leave f owner s = record s { stories = left_by f owner s.keeping s.stories; keeping = leaving_by f owner s.keeping }
+
+-- a flight of a story
+abbrev pub flight_of : TaleFlight → ℕ → Stories → Stories
+flight_of f owner s =
     record s {
       lots = s.lots ++ (record {
-        story = flight_owner f (last_owner s.owners) s;
+        story = owner;
         to = node_of f.target f.device s.homes;
         fate = fates.Missed;
-        bears = not (f.note == 0);
+        bears = bears_of f (numbered s.stories owner);
         overheard = false;
+        search = search_of f.gist (length s.lots + 1) (search_at (numbered s.lots s.came));
       } ∷ []);
     }
+
+unfoldable pub flight_seen : TaleFlight → Stories → Stories
+flight_seen f s =
+    let_leave f (flight_owner f (last_owner s.owners) s) (flight_of f (flight_owner f (last_owner s.owners) s) s)
 
 -- # A whole tale
 
@@ -260,9 +372,17 @@ abbrev pub flights_seen : List TaleFlight → Stories → Stories
 flights_seen [] s = s
 flights_seen (f ∷ fs) s = flights_seen fs (flight_seen f s)
 
+-- with the joining message that an event makes about a meter: it waits where none of the flights of the event is that
+abbrev pub announced_about : Option ℕ → TaleEvent → List TaleFlight → Stories → Stories
+announced_about about e made s =
+    record (kept_begun (message_kept about e (length s.owners) (message_story about (last_owner s.owners) s) made) s) { message = about }
+
+unfoldable pub announced : TaleEvent → List TaleFlight → Stories → Stories
+announced e flights s = announced_about (message_about e flights) e (made_by e flights) s
+
 -- an event and its flights
 unfoldable pub told_seen : TaleEvent → List TaleFlight → Stories → Stories
-told_seen e flights s = flights_seen (made_by e flights) (event_seen e s)
+told_seen e flights s = flights_seen (made_by e flights) (announced e flights (event_seen e s))
 
 abbrev pub events_seen : List TaleFlight → List TaleEvent → Stories → Stories
 events_seen flights [] s = s

@@ -19,6 +19,7 @@
 //! which flight.
 #![tactic(auto)]
 
+mod keeping;
 pub mod laws;
 mod place;
 mod readiness;

@@ -6,13 +6,17 @@ ghost use Rattle.line_tale.specs.Lists.{changed_at};
 ghost use Rattle.line_tale.specs.Marks as story_marks;
 ghost use Rattle.line_stories.specs.Stories as spec_stories;
 
+use crate::keeping::{
+    begin, end_stories, hand_up, is_about, is_joining, leave, message_about, message_kept,
+    piece_kept, still_kept, waiting_kept, waiting_story,
+};
 use crate::place::{place_of, take_place};
 use crate::readiness::{push_owners, take_line, unready};
 use frame_words::{FrameTarget, Gist};
 use line_events::Answer;
 use line_tale::{
-    Act, Fate, Lot, Story, Tale, TaleEvent, TaleFlight, came, change_lots, joins, keeps_joinings,
-    made_by, makes_node, marked, person_of, readies, sends,
+    Act, Fate, Kept, Lot, Story, Tale, TaleEvent, TaleFlight, actor_of, came, change_lots, joins,
+    keeps_joinings, made_by, makes_node, marked, may_end, person_of, readies, sends,
 };
 use std::alloc::{AllocError, Global};
 use std::marker::Model;
@@ -21,6 +25,7 @@ use std::marker::Model;
 /// addresses from 0.
 #[derive(Drop)]
 pub struct Telling {
+    alloc: Global,
     /// The stories.
     pub stories: Vec<Story>,
     /// The story of each event.
@@ -35,6 +40,12 @@ pub struct Telling {
     pub homes: Vec<u32>,
     // The nodes that the last events readied for a joining, which have no story so far.
     ready: Vec<u32>,
+    // The flight that came at the last event, 0 where none did.
+    came: u32,
+    // What nodes keep of stories, in the order in which that began.
+    keeping: Vec<Kept>,
+    // The meter that the joining message is about which the last event made.
+    message: Option<u32>,
 }
 
 impl Model for Telling {
@@ -50,6 +61,9 @@ impl Model for Telling {
       joinings = t.joinings.items;
       homes = t.homes.items;
       ready = t.ready.items;
+      came = t.came;
+      keeping = t.keeping.items;
+      message = t.message;
     } };
 }
 
@@ -201,15 +215,6 @@ fn node_of(target: &FrameTarget, device: Option<u32>, homes: &[u32]) -> Option<u
     }
 }
 
-fn is_joining(gist: &Gist) -> bool
-    ensures { result ≡ spec_stories.is_joining gist.now }
-{
-    match gist {
-        Gist::Joins { .. } => true,
-        _ => false,
-    }
-}
-
 fn keeps_at(stories: &[Story], story: usize) -> bool
     ensures { result ≡ spec_stories.keeps_at (numbered stories.now story) }
 {
@@ -219,6 +224,19 @@ fn keeps_at(stories: &[Story], story: usize) -> bool
     match stories.get(story - 1) {
         None => false,
         Some(found) => keeps_joinings(found.kind),
+    }
+}
+
+// Whether joining messages about a meter stay with a story.
+fn keeps_for(stories: &[Story], story: usize, about: Option<u32>) -> bool
+    ensures { result ≡ spec_stories.keeps_for (numbered stories.now story) about }
+{
+    if story == 0 {
+        return false;
+    }
+    match stories.get(story - 1) {
+        None => false,
+        Some(found) => keeps_joinings(found.kind) && is_about(about, found.person),
     }
 }
 
@@ -254,12 +272,62 @@ fn sent_by(note: u32, sent: &[usize]) -> Option<usize>
     sent.get(note as usize - 1).copied()
 }
 
+// The search that a flight is of with this number, by that of the flight for which it is sent.
+fn search_of(gist: &Gist, number: usize, search: usize) -> usize
+    ensures { result ≡ spec_stories.search_of gist.now number search }
+{
+    match gist {
+        Gist::Seeks { cost, .. } => {
+            if *cost == 0 {
+                return number;
+            }
+            search
+        }
+        Gist::Replies { .. } => search,
+        _ => 0,
+    }
+}
+
+// Whether a meter is that of the message which an event made.
+fn is_own(message: Option<u32>, device: Option<u32>) -> bool
+    ensures { result ≡ spec_stories.is_own message device }
+{
+    match message {
+        None => false,
+        Some(about) => is_about(device, about),
+    }
+}
+
+// Whether a flight carries the datagram of a story, or a piece of it, or a joining message of it.
+fn bears_of(flight: &TaleFlight, stories: &[Story], owner: usize) -> bool
+    ensures { result ≡ spec_stories.bears_of flight.now (numbered stories.now owner) }
+{
+    if flight.note != 0 {
+        return true;
+    }
+    if is_joining(&flight.gist) {
+        return keeps_at(stories, owner);
+    }
+    false
+}
+
+// Whether a flight may have waited for a route.
+fn may_leave(flight: &TaleFlight) -> bool
+    ensures { result ≡ spec_stories.may_leave flight.now }
+{
+    if flight.note != 0 {
+        return true;
+    }
+    is_joining(&flight.gist)
+}
+
 impl Telling {
     /// No stories. It takes no memory.
     pub fn new(alloc: Global) -> Telling
         ensures { result ≡ spec_stories.no_stories }
     {
         Telling {
+            alloc,
             stories: Vec::new(alloc),
             owners: Vec::new(alloc),
             lots: Vec::new(alloc),
@@ -267,6 +335,9 @@ impl Telling {
             joinings: Vec::new(alloc),
             homes: Vec::new(alloc),
             ready: Vec::new(alloc),
+            came: 0,
+            keeping: Vec::new(alloc),
+            message: None,
         }
     }
 
@@ -303,7 +374,8 @@ impl Telling {
         push_node(&mut self.joinings, makes_node(&event.act))?;
         mark(&mut self.stories, story, number, event);
         mark_up(&mut self.stories, event.up, number, self.sent.as_slice());
-        change_lots(&mut self.lots, &event.act, number, event.answer);
+        change_lots(&mut self.lots, event, number);
+        self.came = event.came;
         Ok(())
     }
 
@@ -337,7 +409,92 @@ impl Telling {
         self.settle(&event.act)?;
         let number = self.owners.len();
         let story = self.last_owner();
-        self.record(event, number, story)
+        self.record(event, number, story)?;
+        self.keep(event, number, story)
+    }
+
+    // Ends what an event of this number ends.
+    fn end_kept(&mut self, event: &TaleEvent, number: usize) -> Result<(), AllocError>
+        ensures { OnOk result (self.new ≡ spec_stories.kept_ended event.now number self.old) }
+    {
+        if !may_end(event) {
+            return Ok(());
+        }
+        end_stories(&mut self.stories, number, event, self.keeping.as_slice());
+        self.keeping = still_kept(self.alloc, number, event, self.keeping.as_slice())?;
+        Ok(())
+    }
+
+    // Begins to keep something, if there is such a thing.
+    fn begin_kept(&mut self, kept: Option<Kept>) -> Result<(), AllocError>
+        ensures { OnOk result (self.new ≡ spec_stories.kept_begun kept self.old) }
+    {
+        begin(&mut self.stories, &mut self.keeping, kept)
+    }
+
+    // Takes away the pieces of a datagram that is handed up.
+    fn hand_up(&mut self, event: &TaleEvent) -> Result<(), AllocError>
+        ensures { OnOk result (self.new ≡ spec_stories.up_kept event.now self.old) }
+    {
+        let Some(note) = event.up else {
+            return Ok(());
+        };
+        let Some(story) = sent_by(note, self.sent.as_slice()) else {
+            return Ok(());
+        };
+        hand_up(&mut self.keeping, self.alloc, story, actor_of(&event.act))
+    }
+
+    // What an event of this number makes of what is kept, but for joining messages.
+    #[tactic(auto, unfolding(crate::specs::Stories::kept_seen))]
+    fn keep(&mut self, event: &TaleEvent, number: usize, story: usize) -> Result<(), AllocError>
+        ensures { OnOk result (self.new ≡ spec_stories.kept_seen event.now number story self.old) }
+    {
+        self.end_kept(event, number)?;
+        self.hand_up(event)?;
+        self.begin_kept(waiting_kept(event, number, story))?;
+        let piece = piece_kept(event, number, self.lots.as_slice(), self.keeping.as_slice());
+        self.begin_kept(piece)
+    }
+
+    // The story of a joining message about a meter that an event of a story makes.
+    #[tactic(auto, unfolding(crate::specs::Stories::message_story))]
+    fn message_story(&self, about: Option<u32>, story: usize) -> usize
+        ensures { result ≡ spec_stories.message_story about story self.now }
+    {
+        if keeps_for(self.stories.as_slice(), story, about) {
+            return story;
+        }
+        or_story(joining_of(about, self.joinings.as_slice()), story)
+    }
+
+    // The joining message that an event makes, by all flights of the tale and those that the event made.
+    #[tactic(auto, unfolding(crate::specs::Stories::announced))]
+    fn announce(&mut self, event: &TaleEvent, flights: &[TaleFlight]) -> Result<(), AllocError>
+        ensures { OnOk result (self.new ≡ spec_stories.announced event.now flights.now self.old) }
+    {
+        let about = message_about(event, flights);
+        let number = self.owners.len();
+        let story = self.message_story(about, self.last_owner());
+        let made = made_by(event, flights);
+        self.begin_kept(message_kept(about, event, number, story, made))?;
+        self.message = about;
+        Ok(())
+    }
+
+    // The story of a joining message that flies.
+    #[tactic(auto, unfolding(crate::specs::Stories::message_owner))]
+    fn message_owner(&self, flight: &TaleFlight, story: usize) -> usize
+        ensures { result ≡ spec_stories.message_owner flight.now story self.now }
+    {
+        if is_own(self.message, flight.device) {
+            return self.message_story(flight.device, story);
+        }
+        let from = u32::from(flight.from);
+        match waiting_story(from, flight.device, self.keeping.as_slice()) {
+            Some(other) => other,
+            None => self.message_story(flight.device, story),
+        }
     }
 
     // The story that owns a flight which an event of a story made.
@@ -348,30 +505,59 @@ impl Telling {
         if flight.note != 0 {
             return or_story(sent_by(flight.note, self.sent.as_slice()), story);
         }
-        if !is_joining(&flight.gist) {
-            return story;
+        if is_joining(&flight.gist) {
+            return self.message_owner(flight, story);
         }
-        if keeps_at(self.stories.as_slice(), story) {
-            return story;
+        story
+    }
+
+    // The search that the flight is of which came at the last event.
+    fn came_search(&self) -> usize
+        ensures { result ≡ spec_stories.search_at (numbered self.now.lots self.now.came) }
+    {
+        if self.came == 0 {
+            return 0;
         }
-        or_story(joining_of(flight.device, self.joinings.as_slice()), story)
+        match self.lots.get(self.came as usize - 1) {
+            Some(lot) => lot.search,
+            None => 0,
+        }
+    }
+
+    // Lets leave what waited of a story for which a flight goes out.
+    fn let_leave(&mut self, flight: &TaleFlight, owner: usize) -> Result<(), AllocError>
+        ensures { OnOk result (self.new ≡ spec_stories.let_leave flight.now owner self.old) }
+    {
+        if !may_leave(flight) {
+            return Ok(());
+        }
+        leave(
+            &mut self.stories,
+            &mut self.keeping,
+            self.alloc,
+            owner,
+            u32::from(flight.from),
+        )
     }
 
     /// Adds the next flight of a tale, after the event that made it.
     ///
-    /// It fails only where memory runs out, and nothing changes then.
+    /// It fails only where memory runs out; what is left then is not said.
+    #[tactic(auto, unfolding(crate::specs::Stories::flight_seen))]
     pub fn push_flight(&mut self, flight: &TaleFlight) -> Result<(), AllocError>
         ensures { OnOk result (self.new ≡ spec_stories.flight_seen flight.now self.old) }
     {
+        let owner = self.flight_owner(flight, self.last_owner());
         let lot = Lot {
-            story: self.flight_owner(flight, self.last_owner()),
+            story: owner,
             to: node_of(&flight.target, flight.device, self.homes.as_slice()),
             fate: Fate::Missed,
-            bears: flight.note != 0,
+            bears: bears_of(flight, self.stories.as_slice(), owner),
             overheard: false,
+            search: search_of(&flight.gist, self.lots.len() + 1, self.came_search()),
         };
         self.lots.push(lot)?;
-        Ok(())
+        self.let_leave(flight, owner)
     }
 
     // The flights of an event.
@@ -390,6 +576,7 @@ impl Telling {
         ensures { OnOk result (self.new ≡ spec_stories.told_seen event.now flights.now self.old) }
     {
         self.push_event(event)?;
+        self.announce(event, flights)?;
         self.push_flights(made_by(event, flights))
     }
 

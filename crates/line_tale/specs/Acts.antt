@@ -1,5 +1,5 @@
 -- What a tale keeps of an event: all but its octets and keys.
-use Rattle.std.specs.Prelude.{length}
+use Rattle.std.specs.Prelude.{ℕ, length}
 use Rattle.line_events.specs.declared.event.Event.{Event}
 use Rattle.line_events.specs.declared.event.Event.TheVariants as events
 use Rattle.line_tale.specs.declared.act.Act.{Act}
@@ -34,3 +34,9 @@ act_of (events.Bcast node datagram) = acts.Bcast node (length datagram)
 act_of (events.Scan node) = acts.Scan node
 act_of (events.Choose node k) = acts.Choose node k
 act_of (events.Path from to) = acts.Path from to
+
+-- the flight that comes to a node at an event, where one with the number `same` has the octets that are injected; 0 where none comes
+abbrev pub flight_come : Act → ℕ → ℕ
+flight_come (acts.Deliver flight node cost) same = flight
+flight_come (acts.Inject node cost octets) same = same
+flight_come _ same = 0

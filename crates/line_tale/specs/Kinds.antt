@@ -137,6 +137,26 @@ abbrev pub is_reported : Answer → Bool
 is_reported answers.Reported = true
 is_reported _ = false
 
+-- whether a datagram ended at a node that had accepted its frame, and nobody was told
+abbrev pub is_dropped : Answer → Bool
+is_dropped answers.NoRoute = true
+is_dropped answers.HopsSpent = true
+is_dropped answers.CounterSpent = true
+is_dropped answers.BufferFull = true
+is_dropped answers.BadUnit = true
+is_dropped _ = false
+
+-- whether the counter of a frame that is answered so is taken: a frame of the same sender with a counter that is not above it is refused from then on
+abbrev pub takes_counter : Answer → Bool
+takes_counter answers.NotForMe = false
+takes_counter answers.Halted = false
+takes_counter answers.Store = false
+takes_counter answers.NoKey = false
+takes_counter answers.BadTag = false
+takes_counter answers.Replayed = false
+takes_counter answers.PeersFull = false
+takes_counter _ = true
+
 -- whether a node holds a piece of a datagram now
 abbrev pub is_piece_held : Answer → Bool
 is_piece_held answers.Held = true

@@ -1,4 +1,6 @@
 pub mod Acts
+pub mod Counters
+pub mod Keeping
 pub mod Kinds
 pub mod Lists
 pub mod Marks

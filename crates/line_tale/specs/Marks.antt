@@ -1,5 +1,5 @@
 -- What a story is, what becomes of it at an event, and what becomes of a flight.
-use Rattle.std.specs.Prelude.{ℕ, ◌==◌, ◌&&◌, Bool, true, false, List, Option, None, Some, if◌then◌else◌}
+use Rattle.std.specs.Prelude.{ℕ, ◌==◌, ◌&&◌, ◌||◌, Bool, true, false, List, Option, None, Some, if◌then◌else◌}
 use Rattle.line_events.specs.declared.event.Answer.{Answer}
 use Rattle.line_tale.specs.declared.act.Act.{Act}
 use Rattle.line_tale.specs.declared.act.Act.TheVariants as acts
@@ -10,13 +10,16 @@ use Rattle.line_tale.specs.declared.story.Story.{Story}
 use Rattle.line_tale.specs.declared.lot.Lot.{Lot}
 use Rattle.line_tale.specs.declared.lot.Fate.{Fate}
 use Rattle.line_tale.specs.declared.lot.Fate.TheVariants as fates
-use Rattle.line_tale.specs.Kinds.{takes_on, is_reported, is_declined, is_heeded, is_path, obeys_at}
+use Rattle.line_tale.specs.Kinds.{actor_of, takes_on, is_dropped, is_reported, is_declined, is_heeded, is_path, obeys_at}
 use Rattle.line_tale.specs.Lists.{changed_at}
+use Rattle.line_tale.specs.declared.kept.Kept.{Kept}
+use Rattle.line_tale.specs.Keeping.{is_still}
 
 -- # Stories
 
 abbrev pub new_story : StoryKind → ℕ → ℕ → Story
-new_story kind first person = record { kind = kind; first = first; person = person; reached = None; took = None; declined = None }
+new_story kind first person =
+    record { kind = kind; first = first; person = person; reached = None; took = None; declined = None; waits = None; gathers = None; ended = None }
 
 abbrev pub is_node : Option ℕ → ℕ → Bool
 is_node None node = false
@@ -59,6 +62,23 @@ marked_by _ n e story = story
 abbrev pub marked : ℕ → TaleEvent → Story → Story
 marked n e story = marked_by story.kind n e story
 
+abbrev pub or_kept : Option Kept → Kept → Option Kept
+or_kept None k = Some k
+or_kept (Some old) k = Some old
+
+-- a story of which a piece is gathered, or has ended
+abbrev pub with_gathered : Kept → Story → Story
+with_gathered k story =
+    if is_still k.end then record story { gathers = Some k; ended = story.ended } else record story { gathers = None; ended = or_kept story.ended k }
+
+-- a story of which something is kept, or has ended
+abbrev pub with_kept : Kept → Story → Story
+with_kept k story = if k.gathered then with_gathered k story else record story { waits = Some k }
+
+-- a story of which nothing waits any more, since it left
+abbrev pub left : Story → Story
+left story = record story { waits = None }
+
 -- the datagram of a story is handed up
 abbrev pub came : ℕ → Story → Story
 came n story = record story { reached = or_first story.reached true n }
@@ -74,9 +94,19 @@ is_for (Some x) node = x == node
 abbrev pub answered : ℕ → Answer → Fate
 answered n answer = if takes_on answer then fates.WentOn n else (if is_reported answer then fates.Reported n else fates.Refused n)
 
--- what becomes of a flight, where a node that it is for hears it
+-- whether a frame is accepted that is answered so, and its unit goes on or ends
+abbrev pub is_accepted : Answer → Bool
+is_accepted answer = takes_on answer || (is_reported answer || is_dropped answer)
+
+-- a flight that was refused at an event
+abbrev pub refused_at : ℕ → Fate
+refused_at m = fates.Refused m
+
+-- what becomes of a flight, where a node that it is for hears it: its first hearing counts, unless that was refused and a later one is accepted
 abbrev pub fate_after : ℕ → Answer → Fate → Fate
 fate_after n _ (fates.WentOn m) = fates.WentOn m
+fate_after n _ (fates.Reported m) = fates.Reported m
+fate_after n answer (fates.Refused m) = if is_accepted answer then answered n answer else fates.Refused m
 fate_after n answer _ = answered n answer
 
 abbrev pub fate_lost : ℕ → Fate → Fate
@@ -90,8 +120,10 @@ heard n node answer lot =
 abbrev pub lost : ℕ → Lot → Lot
 lost n lot = record lot { fate = fate_lost n lot.fate }
 
--- what an event does to the flights
-abbrev pub lots_by : Act → ℕ → Answer → List Lot → List Lot
-lots_by (acts.Deliver flight node cost) n answer lots = changed_at flight (heard n node answer) lots
-lots_by (acts.Lose flight) n _ lots = changed_at flight (lost n) lots
-lots_by _ n _ lots = lots
+abbrev pub lost_by : Act → ℕ → List Lot → List Lot
+lost_by (acts.Lose flight) n lots = changed_at flight (lost n) lots
+lost_by _ n lots = lots
+
+-- what an event of this number does to the flights
+abbrev pub lots_by : TaleEvent → ℕ → List Lot → List Lot
+lots_by e n lots = lost_by e.act n (changed_at e.came (heard n (actor_of e.act) e.answer) lots)

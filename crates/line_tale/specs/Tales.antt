@@ -12,7 +12,7 @@ use Rattle.line_events.specs.declared.happenings.Handed.{Handed}
 use Rattle.line_events.specs.declared.happenings.Happenings.{Happenings}
 use Rattle.line_tale.specs.declared.told.TaleEvent.{TaleEvent}
 use Rattle.line_tale.specs.declared.told.TaleFlight.{TaleFlight}
-use Rattle.line_tale.specs.Acts.{act_of}
+use Rattle.line_tale.specs.Acts.{act_of, flight_come}
 
 -- # Events
 
@@ -26,12 +26,13 @@ abbrev pub address_of : Option Admission → Option ℕ
 address_of None = None
 address_of (Some admission) = Some admission.address
 
--- an event, by the number of its line, what happened, and the clock after it
-abbrev pub event_told : ℕ → Event → Happenings → ℕ → TaleEvent
-event_told line event happenings clock =
+-- an event, by the number of its line, what happened, the clock after it, and the flight before it that has the octets which are injected, 0 where none has
+abbrev pub event_told : ℕ → Event → Happenings → ℕ → ℕ → TaleEvent
+event_told line event happenings clock same =
     record {
       line = line;
       act = act_of event;
+      came = flight_come (act_of event) same;
       answer = happenings.answer;
       forged = happenings.forged;
       clock = clock;

@@ -1,11 +1,12 @@
 -- What became of a story.
-use Rattle.std.specs.Prelude.{ℕ, ◌+◌, ◌==◌, ◌&&◌, ◌||◌, Bool, true, false, not, List, [], ◌∷◌, replicate, Option, None, Some, if◌then◌else◌}
+use Rattle.std.specs.Prelude.{ℕ, ◌+◌, ◌==◌, ◌&&◌, ◌||◌, Bool, true, false, not, List, [], ◌∷◌, is_some, replicate, Option, None, Some, if◌then◌else◌}
 use Rattle.line_events.specs.declared.event.Answer.{Answer}
 use Rattle.line_events.specs.declared.event.Answer.TheVariants as answers
 use Rattle.line_tale.specs.declared.told.TaleEvent.{TaleEvent}
 use Rattle.line_tale.specs.declared.kind.StoryKind.{StoryKind}
 use Rattle.line_tale.specs.declared.kind.StoryKind.TheVariants as kinds
 use Rattle.line_tale.specs.declared.story.Story.{Story}
+use Rattle.line_tale.specs.declared.kept.Kept.{Kept}
 use Rattle.line_tale.specs.declared.lot.Lot.{Lot}
 use Rattle.line_tale.specs.declared.lot.Fate.{Fate}
 use Rattle.line_tale.specs.declared.lot.Fate.TheVariants as fates
@@ -18,7 +19,7 @@ use Rattle.line_tale.specs.Lists.{changed_at}
 -- # The ends of a story: its last flight, and the first with its datagram that did not go on
 
 abbrev pub no_ends : Ends
-no_ends = record { last = 0; bears = false; broken = 0 }
+no_ends = record { last = 0; borne = 0; bears = false; broken = 0 }
 
 abbrev pub went_on : Fate → Bool
 went_on (fates.WentOn n) = true
@@ -30,11 +31,13 @@ or_number before n = if before == 0 then n else before
 
 -- one more flight that carries the datagram, or a piece of it
 abbrev pub with_bearer : ℕ → Bool → Ends → Ends
-with_bearer n true ends = record { last = n; bears = true; broken = ends.broken }
-with_bearer n false ends = record { last = n; bears = true; broken = or_number ends.broken n }
+with_bearer n true ends = record { last = n; borne = n; bears = true; broken = ends.broken }
+with_bearer n false ends = record { last = n; borne = n; bears = true; broken = or_number ends.broken n }
 
 abbrev pub with_flight : ℕ → Lot → Ends → Ends
-with_flight n lot ends = if lot.bears then with_bearer n (went_on lot.fate) ends else record { last = n; bears = ends.bears; broken = ends.broken }
+with_flight n lot ends =
+    if lot.bears then with_bearer n (went_on lot.fate) ends
+    else record { last = n; borne = ends.borne; bears = ends.bears; broken = ends.broken }
 
 abbrev pub ends_after : ℕ → Lot → List Ends → List Ends
 ends_after n lot ends = changed_at lot.story (with_flight n lot) ends
@@ -72,15 +75,16 @@ unreached_joining (Some event) declined last = verdicts.TookOnly event last
 unreached_joining None (Some event) last = verdicts.Declined event
 unreached_joining None None last = verdicts.Loose last
 
-abbrev pub unreached_order : ℕ → Verdict
-unreached_order last = if last == 0 then verdicts.NotTold else verdicts.Loose last
+-- an order of which no message went out, and none waits or waited
+abbrev pub unreached_order : ℕ → Option Kept → Verdict
+unreached_order last waits = if (last == 0) && not (is_some waits) then verdicts.NotTold else verdicts.Loose last
 
 -- of a story that did not reach its end
 abbrev pub unreached : StoryKind → Story → Ends → Verdict
 unreached kinds.Datagram story ends = unreached_datagram ends
-unreached kinds.Joining story ends = unreached_joining story.took story.declined ends.last
-unreached kinds.Renewal story ends = unreached_joining story.took story.declined ends.last
-unreached kinds.Order story ends = unreached_order ends.last
+unreached kinds.Joining story ends = unreached_joining story.took story.declined ends.borne
+unreached kinds.Renewal story ends = unreached_joining story.took story.declined ends.borne
+unreached kinds.Order story ends = unreached_order ends.borne story.waits
 unreached kinds.Walk story ends = verdicts.Loose ends.last
 unreached _ story ends = verdicts.Nothing
 

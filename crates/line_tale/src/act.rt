@@ -1,6 +1,6 @@
 //! What an event was.
 ghost use Rattle.std.specs.Prelude.{◌≡◌};
-ghost use Rattle.line_tale.specs.Acts.{act_of};
+ghost use Rattle.line_tale.specs.Acts.{act_of, flight_come};
 
 use line_events::Event;
 use plc_base::Eui;
@@ -135,6 +135,18 @@ pub enum Act {
         from: u32,
         to: u32,
     },
+}
+
+/// The flight that comes to a node at an event, by its number from 1: the one that is delivered, or the one with the number `same`, which has the octets
+/// that are injected. 0 where none comes.
+pub fn flight_come(act: &Act, same: u32) -> u32
+    ensures { result ≡ flight_come act.now same }
+{
+    match act {
+        Act::Deliver { flight, .. } => *flight,
+        Act::Inject { .. } => same,
+        _ => 0,
+    }
 }
 
 /// What an event was, without its octets.

@@ -10,7 +10,9 @@ use std::alloc::{AllocError, Global};
 pub struct Ends {
     /// The last one.
     pub last: usize,
-    /// Whether one carries the datagram of the story, or a piece of it.
+    /// The last that carries the datagram of the story, or a piece or a joining message of it.
+    pub borne: usize,
+    /// Whether one does.
     pub bears: bool,
     /// The first of these that did not go on.
     pub broken: usize,
@@ -43,12 +45,14 @@ fn with_bearer(number: usize, went: bool, ends: &Ends) -> Ends
     if went {
         return Ends {
             last: number,
+            borne: number,
             bears: true,
             broken: ends.broken,
         };
     }
     Ends {
         last: number,
+        borne: number,
         bears: true,
         broken: or_number(ends.broken, number),
     }
@@ -62,6 +66,7 @@ fn with_flight(number: usize, lot: &Lot, ends: &Ends) -> Ends
     }
     Ends {
         last: number,
+        borne: ends.borne,
         bears: ends.bears,
         broken: ends.broken,
     }
@@ -100,6 +105,7 @@ pub fn ends_of(alloc: Global, count: usize, lots: &[Lot]) -> Result<Vec<Ends>, A
         count,
         Ends {
             last: 0,
+            borne: 0,
             bears: false,
             broken: 0,
         },

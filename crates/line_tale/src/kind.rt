@@ -224,6 +224,36 @@ pub fn is_reported(answer: Answer) -> bool
     }
 }
 
+/// Whether a datagram ended at a node that had accepted its frame, and nobody was told.
+pub fn is_dropped(answer: Answer) -> bool
+    ensures { result ≡ story_kinds.is_dropped answer }
+{
+    match answer {
+        Answer::NoRoute => true,
+        Answer::HopsSpent => true,
+        Answer::CounterSpent => true,
+        Answer::BufferFull => true,
+        Answer::BadUnit => true,
+        _ => false,
+    }
+}
+
+/// Whether the counter of a frame that is answered so is taken: a frame of the same sender with a counter that is not above it is refused from then on.
+pub fn takes_counter(answer: Answer) -> bool
+    ensures { result ≡ story_kinds.takes_counter answer }
+{
+    match answer {
+        Answer::NotForMe => false,
+        Answer::Halted => false,
+        Answer::Store => false,
+        Answer::NoKey => false,
+        Answer::BadTag => false,
+        Answer::Replayed => false,
+        Answer::PeersFull => false,
+        _ => true,
+    }
+}
+
 /// Whether a meter was not let in.
 pub fn is_declined(answer: Answer) -> bool
     ensures { result ≡ story_kinds.is_declined answer }

@@ -6,7 +6,7 @@
 //! ```text
 //! let mut tale = Tale::new(alloc);
 //! let happened = world.step(&event, &mut space)?;
-//! tale.push_event(line, &event, &happened, clock)?;
+//! tale.push_event(line, &event, &happened, clock, 0)?;
 //! for each new flight {
 //!     tale.push_flight(sender, note, octets, Some(payload), None)?;
 //! }
@@ -20,7 +20,9 @@
 #![tactic(auto)]
 
 mod act;
+mod counters;
 mod ends;
+mod kept;
 mod kind;
 mod lot;
 mod story;
@@ -28,14 +30,18 @@ mod tale;
 mod told;
 mod verdict;
 
-pub use act::{Act, act_of};
+pub use act::{Act, act_of, flight_come};
+pub use counters::Counters;
 pub use ends::{Ends, ends_of, or_number, went_on};
+pub use kept::{
+    Kept, KeptEnd, end_of, ended_so, is_kept_of, is_message, is_still, makes_message, may_end,
+};
 pub use kind::{
     StoryKind, actor_of, begins, goes_on_with, is_line, is_piece_held, is_setup, is_setup_kind,
-    joins, keeps_joinings, makes_node, person_of, readies, sends,
+    joins, keeps_joinings, makes_node, person_of, readies, sends, takes_counter,
 };
 pub use lot::{Fate, Lot, change_lots};
-pub use story::{Story, came, marked, new_story};
+pub use story::{Story, came, left, marked, new_story, with_kept};
 pub use tale::Tale;
 pub use told::{TaleEvent, TaleFlight, event_told, flight_told, made_by};
 pub use verdict::{Verdict, is_good, verdict_of};

@@ -4,7 +4,8 @@ ghost use Rattle.line_tale.specs.Lists.{changed_at};
 ghost use Rattle.line_tale.specs.Marks as story_marks;
 
 use crate::act::Act;
-use crate::kind::{is_reported, takes_on};
+use crate::kind::{actor_of, is_dropped, is_reported, takes_on};
+use crate::told::TaleEvent;
 use line_events::Answer;
 
 /// What became of a flight at the node that it is for; of one to all, or to no node of the run, at any node. Events are meant by their
@@ -15,9 +16,9 @@ pub enum Fate {
     Missed,
     /// It was lost before it came there.
     Lost { event: usize },
-    /// It was refused there, at this event for the last time.
+    /// It was refused there, or accepted and its datagram ended, at this event. Of several refusals it is the first, unless it was accepted later.
     Refused { event: usize },
-    /// Its unit ended there, and that was reported to the origin, at this event for the last time.
+    /// Its unit ended there, and that was reported to the origin, at this event.
     Reported { event: usize },
     /// It was taken there, at this event first.
     WentOn { event: usize },
@@ -32,10 +33,13 @@ pub struct Lot {
     pub to: Option<u32>,
     /// What became of it.
     pub fate: Fate,
-    /// Whether it carries the datagram of its story, or a piece of that.
+    /// Whether it carries the datagram of its story, or a piece or a joining message of it.
     pub bears: bool,
     /// Whether another node heard it.
     pub overheard: bool,
+    /// The search for a route that it is of, by the number of the route request that began it: that one, its copies, and the replies to it. 0 where it
+    /// is of none.
+    pub search: usize,
 }
 
 fn is_for(to: Option<u32>, node: u32) -> bool
@@ -60,11 +64,30 @@ fn answered(number: usize, answer: Answer) -> Fate
     Fate::Refused { event: number }
 }
 
+// Whether a frame is accepted that is answered so, and its unit goes on or ends.
+fn is_accepted(answer: Answer) -> bool
+    ensures { result ≡ story_marks.is_accepted answer }
+{
+    takes_on(answer) || is_reported(answer) || is_dropped(answer)
+}
+
+// What becomes of a flight that was refused at an event, where it comes again.
+fn refused_again(number: usize, answer: Answer, event: usize) -> Fate
+    ensures { result ≡ story_marks.fate_after number answer (story_marks.refused_at event) }
+{
+    if is_accepted(answer) {
+        return answered(number, answer);
+    }
+    Fate::Refused { event }
+}
+
 fn fate_after(number: usize, answer: Answer, fate: &Fate) -> Fate
     ensures { result ≡ story_marks.fate_after number answer fate.now }
 {
     match fate {
         Fate::WentOn { event } => Fate::WentOn { event: *event },
+        Fate::Reported { event } => Fate::Reported { event: *event },
+        Fate::Refused { event } => refused_again(number, answer, *event),
         _ => answered(number, answer),
     }
 }
@@ -88,6 +111,7 @@ fn heard(number: usize, node: u32, answer: Answer, lot: &Lot) -> Lot
             fate: fate_after(number, answer, &lot.fate),
             bears: lot.bears,
             overheard: lot.overheard,
+            search: lot.search,
         };
     }
     Lot {
@@ -96,6 +120,7 @@ fn heard(number: usize, node: u32, answer: Answer, lot: &Lot) -> Lot
         fate: lot.fate,
         bears: lot.bears,
         overheard: true,
+        search: lot.search,
     }
 }
 
@@ -108,6 +133,7 @@ fn lost(number: usize, lot: &Lot) -> Lot
         fate: fate_lost(number, &lot.fate),
         bears: lot.bears,
         overheard: lot.overheard,
+        search: lot.search,
     }
 }
 
@@ -137,13 +163,20 @@ fn lose(lots: &mut Vec<Lot>, flight: usize, number: usize)
     lots[flight - 1] = new;
 }
 
-/// What an event of this number does to the flights, each by its number from 1.
-pub fn change_lots(lots: &mut Vec<Lot>, act: &Act, number: usize, answer: Answer)
-    ensures { lots.new.items ≡ story_marks.lots_by act.now number answer lots.old.items }
+fn lose_by(lots: &mut Vec<Lot>, act: &Act, number: usize)
+    ensures { lots.new.items ≡ story_marks.lost_by act.now number lots.old.items }
 {
     match act {
-        Act::Deliver { flight, node, .. } => hear(lots, *flight as usize, number, *node, answer),
         Act::Lose { flight } => lose(lots, *flight as usize, number),
         _ => {}
     }
+}
+
+/// What an event of this number does to the flights, each by its number from 1.
+pub fn change_lots(lots: &mut Vec<Lot>, event: &TaleEvent, number: usize)
+    ensures { lots.new.items ≡ story_marks.lots_by event.now number lots.old.items }
+{
+    let node = actor_of(&event.act);
+    hear(lots, event.came as usize, number, node, event.answer);
+    lose_by(lots, &event.act, number);
 }

@@ -3,6 +3,7 @@ ghost use Rattle.std.specs.Prelude.{◌≡◌, ◌&&◌};
 ghost use Rattle.line_tale.specs.Kinds.{is_heeded, obeys_at};
 ghost use Rattle.line_tale.specs.Marks as story_marks;
 
+use crate::kept::{Kept, is_still};
 use crate::kind::{StoryKind, is_declined, is_heeded, is_path, obeys_at};
 use crate::told::TaleEvent;
 
@@ -22,6 +23,12 @@ pub struct Story {
     pub took: Option<usize>,
     /// The first event at which the meter that joins was declined.
     pub declined: Option<usize>,
+    /// What of it waits for a route, or waited and ended; None where the last that waited has left, or none did.
+    pub waits: Option<Kept>,
+    /// The piece of it that a node gathers, the last where there are several. None where it has ended.
+    pub gathers: Option<Kept>,
+    /// The first piece that a node had gathered of it and that ended before the datagram was whole.
+    pub ended: Option<Kept>,
 }
 
 /// A story without a further event.
@@ -35,6 +42,9 @@ pub fn new_story(kind: StoryKind, first: usize, person: u32) -> Story
         reached: None,
         took: None,
         declined: None,
+        waits: None,
+        gathers: None,
+        ended: None,
     }
 }
 
@@ -85,6 +95,9 @@ fn joining_marked(number: usize, event: &TaleEvent, story: &Story) -> Story
         reached: or_last(story.reached, is_meter(event.done, story.person), number),
         took: or_last(story.took, is_meter(event.took, story.person), number),
         declined: or_first(story.declined, is_declined(event.answer), number),
+        waits: story.waits,
+        gathers: story.gathers,
+        ended: story.ended,
     }
 }
 
@@ -108,6 +121,9 @@ fn reached_at(number: usize, holds: bool, story: &Story) -> Story
         reached: or_first(story.reached, holds, number),
         took: story.took,
         declined: story.declined,
+        waits: story.waits,
+        gathers: story.gathers,
+        ended: story.ended,
     }
 }
 
@@ -129,4 +145,71 @@ pub fn came(number: usize, story: &Story) -> Story
     ensures { result ≡ story_marks.came number story.now }
 {
     reached_at(number, true, story)
+}
+
+fn with_waiting(waits: Option<Kept>, story: &Story) -> Story
+    ensures { result ≡ record story.now { waits = waits } }
+{
+    Story {
+        kind: story.kind,
+        first: story.first,
+        person: story.person,
+        reached: story.reached,
+        took: story.took,
+        declined: story.declined,
+        waits,
+        gathers: story.gathers,
+        ended: story.ended,
+    }
+}
+
+fn or_kept(before: &Option<Kept>, kept: &Kept) -> Option<Kept>
+    ensures { result ≡ story_marks.or_kept before.now kept.now }
+{
+    match before {
+        None => Some(*kept),
+        Some(old) => Some(*old),
+    }
+}
+
+fn with_pieces(gathers: Option<Kept>, ended: Option<Kept>, story: &Story) -> Story
+    ensures { result ≡ record story.now { gathers = gathers; ended = ended } }
+{
+    Story {
+        kind: story.kind,
+        first: story.first,
+        person: story.person,
+        reached: story.reached,
+        took: story.took,
+        declined: story.declined,
+        waits: story.waits,
+        gathers,
+        ended,
+    }
+}
+
+fn with_gathered(kept: &Kept, story: &Story) -> Story
+    ensures { result ≡ story_marks.with_gathered kept.now story.now }
+{
+    if is_still(&kept.end) {
+        return with_pieces(Some(*kept), story.ended, story);
+    }
+    with_pieces(None, or_kept(&story.ended, kept), story)
+}
+
+/// A story of which something is kept, or has ended.
+pub fn with_kept(kept: &Kept, story: &Story) -> Story
+    ensures { result ≡ story_marks.with_kept kept.now story.now }
+{
+    if kept.gathered {
+        return with_gathered(kept, story);
+    }
+    with_waiting(Some(*kept), story)
+}
+
+/// A story of which nothing waits any more, since it left.
+pub fn left(story: &Story) -> Story
+    ensures { result ≡ story_marks.left story.now }
+{
+    with_waiting(None, story)
 }

@@ -29,7 +29,8 @@ impl Tale {
         }
     }
 
-    /// Adds an event that was taken, by the number of its line from 1, what happened, and the clock after it in seconds.
+    /// Adds an event that was taken, by the number of its line from 1, what happened, the clock after it in seconds, and the flight before it that has the
+    /// octets which are injected, 0 where none has.
     ///
     /// It fails only where memory runs out, and nothing changes then.
     pub fn push_event(
@@ -38,14 +39,15 @@ impl Tale {
         event: &Event<'_>,
         happenings: &Happenings<'_>,
         clock: u64,
+        same: u32,
     ) -> Result<(), AllocError>
         ensures ok { OnOk result
-            (self.new.events.items ≡ self.old.events.items ++ tales.event_told line event.now happenings.now clock ∷ []) }
+            (self.new.events.items ≡ self.old.events.items ++ tales.event_told line event.now happenings.now clock same ∷ []) }
         ensures err { OnErr result (self.new.events.items ≡ self.old.events.items) }
         ensures flights { self.new.flights.items ≡ self.old.flights.items }
     {
         self.events
-            .push(event_told(line, event, happenings, clock))?;
+            .push(event_told(line, event, happenings, clock, same))?;
         Ok(())
     }
 

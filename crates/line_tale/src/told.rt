@@ -4,7 +4,7 @@ ghost use Rattle.std.specs.Option.{ForSome, option_copied};
 ghost use Rattle.plc_base.specs.declared.limits.TheConstants.{LONGEST_FRAME};
 ghost use Rattle.line_tale.specs.Tales.{address_of, event_told, flight_told, gist_of, kind_of, made_by, note_of};
 
-use crate::act::{Act, act_of};
+use crate::act::{Act, act_of, flight_come};
 use frame_words::{FrameTarget, Gist, PayloadKind, frame_target, payload_gist, payload_kind};
 use line_events::{Admission, Answer, Event, Handed, Happenings};
 
@@ -15,6 +15,8 @@ pub struct TaleEvent {
     pub line: u32,
     /// What it was.
     pub act: Act,
+    /// The flight that came to a node, by its number from 1: one that was delivered, or whose octets were injected. 0 where none did.
+    pub came: u32,
     /// How it ended.
     pub answer: Answer,
     /// Whether a tag that a node found right was made by nobody.
@@ -70,18 +72,22 @@ fn address_of(grant: &Option<Admission>) -> Option<u16>
     }
 }
 
-/// An event that was taken, by the number of its line, what happened, and the clock after it.
+/// An event that was taken, by the number of its line, what happened, the clock after it, and the flight before it that has the octets which are
+/// injected, 0 where none has.
 pub fn event_told(
     line: u32,
     event: &Event<'_>,
     happenings: &Happenings<'_>,
     clock: u64,
+    same: u32,
 ) -> TaleEvent
-    ensures { result ≡ event_told line event.now happenings.now clock }
+    ensures { result ≡ event_told line event.now happenings.now clock same }
 {
+    let act = act_of(event);
     TaleEvent {
         line,
-        act: act_of(event),
+        act,
+        came: flight_come(&act, same),
         answer: happenings.answer,
         forged: happenings.forged,
         clock,

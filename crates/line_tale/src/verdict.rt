@@ -3,6 +3,7 @@ ghost use Rattle.std.specs.Prelude.{◌≡◌, ◌&&◌};
 ghost use Rattle.line_tale.specs.Verdicts as spec_verdicts;
 
 use crate::ends::Ends;
+use crate::kept::Kept;
 use crate::kind::{StoryKind, is_reported, takes_on};
 use crate::story::Story;
 use crate::told::TaleEvent;
@@ -80,10 +81,10 @@ fn unreached_joining(took: Option<usize>, declined: Option<usize>, last: usize) 
     }
 }
 
-fn unreached_order(last: usize) -> Verdict
-    ensures { result ≡ spec_verdicts.unreached_order last }
+fn unreached_order(last: usize, waits: &Option<Kept>) -> Verdict
+    ensures { result ≡ spec_verdicts.unreached_order last waits.now }
 {
-    if last == 0 {
+    if last == 0 && waits.is_none() {
         return Verdict::NotTold;
     }
     Verdict::Loose { last }
@@ -95,9 +96,9 @@ fn unreached(story: &Story, ends: &Ends) -> Verdict
 {
     match story.kind {
         StoryKind::Datagram => unreached_datagram(ends),
-        StoryKind::Joining => unreached_joining(story.took, story.declined, ends.last),
-        StoryKind::Renewal => unreached_joining(story.took, story.declined, ends.last),
-        StoryKind::Order => unreached_order(ends.last),
+        StoryKind::Joining => unreached_joining(story.took, story.declined, ends.borne),
+        StoryKind::Renewal => unreached_joining(story.took, story.declined, ends.borne),
+        StoryKind::Order => unreached_order(ends.borne, &story.waits),
         StoryKind::Walk => Verdict::Loose { last: ends.last },
         _ => Verdict::Nothing,
     }

@@ -116,7 +116,7 @@ pub entry_captured : (row : ℕ) (m : Capturing) (e : Event) (run : Recording) (
     → Stepped rules row m (next_of m run injected keys) t None
 entry_captured row m e run injected keys Skipped refusal r none brought drew = absurd r
 entry_captured row m e run injected keys (Taken entry) refusal r none brought drew =
-    let told : TaleEvent = told_of row entry in
+    let told : TaleEvent = told_of row entry m.run in
     let there : numbered run.events (length run.events) ≡ Some told
     = ap (λ (x : Recording). numbered x.events (length x.events)) r.1.1 ∙ last_recorded row entry m.run in
     let new : Recording = recorded row entry m.run in (

@@ -16,7 +16,8 @@ use Rattle.line_tale.specs.declared.told.TaleEvent.{TaleEvent}
 use Rattle.line_tale.specs.Tales.{event_told, numbered}
 use Rattle.line_world.specs.Steps.{Takes}
 use Rattle.script_runs.specs.Takings.{event_taking}
-use Rattle.line_view.specs.Recordings.{Recording, Recorded, event_recorded, flight_recorded, flights_recorded, in_world, recorded, with_octets}
+use Rattle.line_view.specs.Recordings.{Recording, Recorded, event_recorded, flight_recorded, flights_recorded, in_world, recorded}
+use Rattle.line_view.specs.Recordings.{same_flight, with_octets}
 
 -- an event was taken and recorded
 pub event_kept : (row before : ℕ) (r0 r1 : Recording) (next : World) (e : Event) (h : Happenings) → r0.world.events < MAX_EVENTS
@@ -41,13 +42,13 @@ one_more before i first old new was is =
 
 -- # A recording has the world of its last entry
 
-with_world : (o : Option (List ℕ)) (from note : ℕ) (key : Option Key) (r : Recording) → (with_octets o from note key r).world ≡ r.world
-with_world None from note key r = refl
-with_world (Some octets) from note key r = refl
+with_world : (o : Option (List ℕ)) (number from note : ℕ) (key : Option Key) (r : Recording) → (with_octets o number from note key r).world ≡ r.world
+with_world None number from note key r = refl
+with_world (Some octets) number from note key r = refl
 
 flight_world : (number : ℕ) (r : Recording) → (flight_recorded number r).world ≡ r.world
 unfolding flight_recorded
-flight_world number r = with_world _ _ _ _ r
+flight_world number r = with_world _ _ _ _ _ r
 
 flights_world : (before n : ℕ) (r : Recording) → (flights_recorded before n r).world ≡ r.world
 flights_world before zero r = refl
@@ -59,22 +60,23 @@ recorded_world row entry r = flights_world (length r.world.flights) _ _
 
 -- # A recording has its last entry last
 
-with_told : (o : Option (List ℕ)) (from note : ℕ) (key : Option Key) (r : Recording) → (with_octets o from note key r).events ≡ r.events
-with_told None from note key r = refl
-with_told (Some octets) from note key r = refl
+with_told : (o : Option (List ℕ)) (number from note : ℕ) (key : Option Key) (r : Recording) → (with_octets o number from note key r).events ≡ r.events
+with_told None number from note key r = refl
+with_told (Some octets) number from note key r = refl
 
 flight_told : (number : ℕ) (r : Recording) → (flight_recorded number r).events ≡ r.events
 unfolding flight_recorded
-flight_told number r = with_told _ _ _ _ r
+flight_told number r = with_told _ _ _ _ _ r
 
 flights_told : (before n : ℕ) (r : Recording) → (flights_recorded before n r).events ≡ r.events
 flights_told before zero r = refl
 flights_told before (suc n) r = flight_told _ (flights_recorded before n r) ∙ flights_told before n r
 
-abbrev pub told_of : ℕ → Entry → TaleEvent
-told_of row entry = event_told row entry.event entry.trace.happenings entry.after.clock
+abbrev pub told_of : ℕ → Entry → Recording → TaleEvent
+told_of row entry r =
+    event_told row entry.event entry.trace.happenings entry.after.clock (same_flight entry.event (in_world entry.after r))
 
-recorded_told : (row : ℕ) (entry : Entry) (r : Recording) → (recorded row entry r).events ≡ r.events ++ (told_of row entry ∷ [])
+recorded_told : (row : ℕ) (entry : Entry) (r : Recording) → (recorded row entry r).events ≡ r.events ++ (told_of row entry r ∷ [])
 unfolding event_recorded
 recorded_told row entry r = flights_told (length r.world.flights) _ _
 
@@ -97,7 +99,7 @@ last_at xs x k e =
 
 -- what is told last is that of the entry that was recorded last
 pub last_recorded : (row : ℕ) (entry : Entry) (r : Recording)
-    → numbered (recorded row entry r).events (length (recorded row entry r).events) ≡ Some (told_of row entry)
+    → numbered (recorded row entry r).events (length (recorded row entry r).events) ≡ Some (told_of row entry r)
 last_recorded row entry r =
     ap (λ (es : List TaleEvent). numbered es (length es)) (recorded_told row entry r)
-    ∙ last_at r.events (told_of row entry) (length (r.events ++ (told_of row entry ∷ []))) (more r.events (told_of row entry))
+    ∙ last_at r.events (told_of row entry r) (length (r.events ++ (told_of row entry r ∷ []))) (more r.events (told_of row entry r))

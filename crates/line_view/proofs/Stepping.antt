@@ -17,13 +17,13 @@ use Rattle.line_view.specs.Checked.{Stepped}
 
 -- an event was taken and kept
 pub stepped : (c0 c1 : Checking) (number : ℕ) (line : List ℕ) (e : Event) (next : World) (h : Happenings) (t : TaleEvent) → c0.world.events < MAX_EVENTS
-    → Takes h next (line_step network c0.world e) → t ≡ event_told number e h next.clock → c1 ≡ kept number line e t (in_world next c0)
+    → Takes h next (line_step network c0.world e) → t ≡ event_told number e h next.clock 0 → c1 ≡ kept number line e t (in_world next c0)
     → Stepped c0 c1 number line (event_taking c0.world e) None
 stepped c0 c1 number line e next h t room is told keeps =
     rw (lt-ltb c0.world.events MAX_EVENTS room, is.taken) (
       refl,
       keeps ∙ ap (λ (x : TaleEvent). kept number line e x (in_world next c0))
-          (told ∙ ap (λ (x : Happenings). event_told number e x next.clock) is.reported),
+          (told ∙ ap (λ (x : Happenings). event_told number e x next.clock 0) is.reported),
     )
 
 no_reason : (why : Reason) → None ≡ Some why → ⊥

@@ -154,7 +154,7 @@ in_world w c = record c { world = w }
 -- its event is taken
 abbrev pub taken_after : ℕ → List ℕ → Entry → Checking → Checking
 taken_after number line entry c =
-    kept number line entry.event (event_told number entry.event entry.trace.happenings entry.after.clock) (in_world entry.after c)
+    kept number line entry.event (event_told number entry.event entry.trace.happenings entry.after.clock 0) (in_world entry.after c)
 
 -- one more bad line; there are fewer lines than this bound
 abbrev pub counted : ℕ → ℕ

@@ -46,7 +46,11 @@ run_account r told s ends index =
     record {
       events = r.events;
       flights = r.flights;
+      more = r.more;
+      counters = r.counters;
+      marks = told.marks;
       stories = s.stories;
+      owners = s.owners;
       lots = s.lots;
       ends = ends;
       index = index;

@@ -1,12 +1,14 @@
 -- A run, recorded while it is made: the world, and the tale of what its events did.
-use Rattle.std.specs.Prelude.{◌≡◌, ℕ, Bool, true, false, ◌+◌, ◌-◌, zero, suc, List, [], ◌∷◌, ◌++◌, length, Option, None, Some}
+use Rattle.std.specs.Prelude.{◌≡◌, ℕ, Bool, true, false, ◌+◌, ◌-◌, zero, suc, List, [], ◌∷◌, ◌++◌, length, Option, None, Some, if◌then◌else◌}
 use Rattle.std.specs.Option.{option_and_then, option_map, unwrap_or}
+use Rattle.std.specs.Str.{bytes_eq}
 use Rattle.plc_base.specs.declared.address.Eui.{Eui}
 use Rattle.plc_base.specs.declared.key.Key.{Key}
 use Rattle.frame_words.specs.Gists.{frame_target}
 use Rattle.frame_details.specs.declared.detail.FlightMore.{FlightMore}
 use Rattle.frame_details.specs.Details.{more_of}
 use Rattle.frame_details.specs.Payloads.{carried_of}
+use Rattle.line_tale.specs.Counters.{counters_with, flight_with}
 use Rattle.sentence_parts.specs.Whos.{device_of}
 use Rattle.line_events.specs.declared.event.Answer.{Answer}
 use Rattle.line_events.specs.declared.event.Answer.TheVariants as answers
@@ -29,11 +31,13 @@ pub record Recording : Type 0 where
   pub flights : List TaleFlight
   -- what the flights carry that no story goes by
   pub more : List FlightMore
+  -- which flight was sealed with which counter
+  pub counters : List ((ℕ × ℕ) × ℕ)
   -- the EUI-64 of each node, by its number from 0
   pub euis : List Eui
 
 abbrev pub no_recording : Recording
-no_recording = record { world = start; events = []; flights = []; more = []; euis = [] }
+no_recording = record { world = start; events = []; flights = []; more = []; counters = []; euis = [] }
 
 -- # Flights
 
@@ -50,21 +54,22 @@ note_at w number = unwrap_or (option_map (λ (f : Flight). f.note) (flight_at w 
 abbrev pub key_at : World → ℕ → Option Key
 key_at w number = option_and_then (λ (f : Flight). f.key) (flight_at w number)
 
-abbrev pub with_payload : ℕ → ℕ → List ℕ → Option (List ℕ) → Recording → Recording
-with_payload from note octets payload r =
+abbrev pub with_payload : ℕ → ℕ → ℕ → List ℕ → Option (List ℕ) → Recording → Recording
+with_payload number from note octets payload r =
     record r {
       flights = r.flights ++ (flight_told from note octets payload (device_of (frame_target octets) payload r.euis) ∷ []);
       more = r.more ++ (more_of octets payload ∷ []);
+      counters = counters_with number (more_of octets payload) r.counters;
     }
 
-abbrev pub with_octets : Option (List ℕ) → ℕ → ℕ → Option Key → Recording → Recording
-with_octets None from note key r = r
-with_octets (Some octets) from note key r = with_payload from note octets (carried_of octets key) r
+abbrev pub with_octets : Option (List ℕ) → ℕ → ℕ → ℕ → Option Key → Recording → Recording
+with_octets None number from note key r = r
+with_octets (Some octets) number from note key r = with_payload number from note octets (carried_of octets key) r
 
 -- with the flight of a number, if there is one
 unfoldable pub flight_recorded : ℕ → Recording → Recording
 flight_recorded number r =
-    with_octets (octets_at r.world number) (sender_at r.world number) (note_at r.world number) (key_at r.world number) r
+    with_octets (octets_at r.world number) number (sender_at r.world number) (note_at r.world number) (key_at r.world number) r
 
 -- with so many flights after the one of this number
 abbrev pub flights_recorded : ℕ → ℕ → Recording → Recording
@@ -89,10 +94,27 @@ is_drawn answers.Drawn = true
 is_drawn answers.Store = true
 is_drawn _ = false
 
+-- the number of a flight, where it has these octets; else 0
+abbrev pub number_if : Option (List ℕ) → List ℕ → ℕ → ℕ
+number_if None octets number = 0
+number_if (Some flown) octets number = if bytes_eq flown octets then number else 0
+
+-- the sealed flight that has some octets, among those that were recorded: the first of their sender with their counter; 0 where it has others, or
+-- where they are no sealed frame
+abbrev pub flight_of : List ℕ → FlightMore → Recording → ℕ
+flight_of octets more r =
+    if more.sealed then number_if (octets_at r.world (flight_with more.from more.counter r.counters)) octets (flight_with more.from more.counter r.counters)
+    else 0
+
+-- the flight whose octets an event injects, 0 where none has them
+abbrev pub same_flight : Event → Recording → ℕ
+same_flight (events.Inject node cost octets) r = flight_of octets (more_of octets None) r
+same_flight _ r = 0
+
 abbrev pub with_event : ℕ → Event → Happenings → Recording → Recording
 with_event row event happenings r =
     record r {
-      events = r.events ++ (event_told row event happenings r.world.clock ∷ []);
+      events = r.events ++ (event_told row event happenings r.world.clock (same_flight event r) ∷ []);
       euis = with_eui (made_eui event) r.euis;
     }
 

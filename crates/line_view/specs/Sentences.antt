@@ -5,6 +5,7 @@ use Rattle.plc_base.specs.declared.address.Eui.{Eui}
 use Rattle.plc_base.specs.declared.key.Key.{Key}
 use Rattle.node_rules.specs.Memory.{Node}
 use Rattle.node_rules.specs.declared.shown.Shown.{Shown}
+use Rattle.node_rules.specs.declared.shown.ShownPeer.{ShownPeer}
 use Rattle.node_rules.specs.declared.shown.ShownRoute.{ShownRoute}
 use Rattle.node_rules.specs.Showing.{nothing_shown, shown_of}
 use Rattle.line_events.specs.declared.event.Answer.{Answer}
@@ -25,7 +26,6 @@ use Rattle.sentence_parts.specs.declared.part.Who.TheVariants as whos
 use Rattle.story_accounts.specs.Sections.{is_for_another}
 use Rattle.event_sentences.specs.declared.heard.DrawnKey.{DrawnKey}
 use Rattle.event_sentences.specs.declared.heard.Heard.{Heard}
-use Rattle.event_sentences.specs.Counters.{counters_with}
 use Rattle.event_sentences.specs.Heards.{heard_flight, heard_octets}
 use Rattle.event_sentences.specs.RouteEnds.{has_ended, valid_dests}
 use Rattle.event_sentences.specs.Scenes.{Scene}
@@ -42,11 +42,11 @@ pub record Sentences : Type 0 where
   pub keys : List DrawnKey
   -- what is kept of each node
   pub watches : List Watched
-  -- which flight was sealed with which counter
-  pub counters : List ((ℕ × ℕ) × ℕ)
+  -- the marks that each node showed last
+  pub marks : List (List ShownPeer)
 
 abbrev pub no_sentences : Sentences
-no_sentences = record { sentences = []; homes = []; keys = []; watches = []; counters = [] }
+no_sentences = record { sentences = []; homes = []; keys = []; watches = []; marks = [] }
 
 -- # What an event says of addresses, nodes and keys
 
@@ -63,12 +63,17 @@ abbrev pub watches_with : Bool → List Watched → List Watched
 watches_with true watches = watches ++ (unwatched ∷ [])
 watches_with false watches = watches
 
+abbrev pub marks_with : Bool → List (List ShownPeer) → List (List ShownPeer)
+marks_with true marks = marks ++ ([] ∷ [])
+marks_with false marks = marks
+
 unfoldable pub learned : Event → TaleEvent → Sentences → Sentences
 learned event e s =
     record s {
       homes = homes_with (newcomer (length s.homes) e.act e.answer e.address) s.homes;
       keys = keys_after event e.answer s.keys;
       watches = watches_with (makes_node e.act) s.watches;
+      marks = marks_with (makes_node e.act) s.marks;
     }
 
 -- # The frame that came
@@ -133,26 +138,29 @@ ended_at w place watches =
 
 abbrev pub noted_at : ℕ → TaleEvent → List Watched → List Watched
 noted_at event e watches =
-    changed_place (slice_get watches (actor_of e.act)) (actor_of e.act) (noted e.act e.answer event) watches
-
--- flights, of which the first has this number: those from a place on
-abbrev pub counters_from : ℕ → ℕ → List FlightMore → List ((ℕ × ℕ) × ℕ) → List ((ℕ × ℕ) × ℕ)
-counters_from first place [] counters = counters
-counters_from first place (more ∷ rest) counters = counters_from first (place + 1) rest (counters_with (first + place) more counters)
+    changed_place (slice_get watches (actor_of e.act)) (actor_of e.act) (noted e event) watches
 
 -- # One event
 
 -- with the words of an event, which is noted
-unfoldable pub ending : List ℕ → ℕ → TaleEvent → Recording → Sentences → Sentences
-ending words event e r s =
+unfoldable pub ending : List ℕ → ℕ → TaleEvent → Sentences → Sentences
+ending words event e s =
     record s {
       sentences = s.sentences ++ (words ∷ []);
       watches = noted_at event e s.watches;
-      counters = counters_from e.first_flight 0 (made_by e r.more) s.counters;
     }
 
-abbrev pub with_looks : List Watched → Sentences → Sentences
-with_looks watches s = record s { watches = watches }
+abbrev pub shown_marks : List ShownPeer → List ShownPeer → List ShownPeer
+shown_marks peers old = peers
+
+-- with the marks that a node shows
+abbrev pub marks_set : ℕ → List ShownPeer → List (List ShownPeer) → List (List ShownPeer)
+marks_set place peers marks = changed_place (slice_get marks place) place (shown_marks peers) marks
+
+-- with the looks at the nodes, and the marks that the node of the event shows
+abbrev pub with_looks : TaleEvent → World → List Watched → Sentences → Sentences
+with_looks e w watches s =
+    record s { watches = watches; marks = marks_set (actor_of e.act) (shown_by (node_at w (actor_of e.act))).peers s.marks }
 
 -- what the sentence goes by: what the node shows that the event is about, and whether a route of it ended
 abbrev pub scene : TaleEvent → Option Heard → Shown → Bool → Recording → Sentences → Scene
@@ -165,7 +173,7 @@ scene e heard shown ended r s =
       shown = shown;
       watch = slice_get s.watches (actor_of e.act);
       ended = ended;
-      counters = s.counters;
+      counters = r.counters;
       homes = s.homes;
       euis = r.euis;
     }
@@ -175,16 +183,17 @@ abbrev pub words_of : TaleEvent → Option Heard → Bool → Recording → Sent
 words_of e heard ended r s = event_text (scene e heard (shown_by (node_at r.world (actor_of e.act))) ended r s)
 
 abbrev pub told_with : ℕ → TaleEvent → Option Heard → Bool → Recording → Sentences → Sentences
-told_with event e heard ended r s = ending (words_of e heard ended r s) event e r s
+told_with event e heard ended r s = ending (words_of e heard ended r s) event e s
 
 -- an event that has words, after the looks at other nodes
 unfoldable pub worded : ℕ → TaleEvent → Option Heard → List Watched → Recording → Sentences → Sentences
 worded event e heard watches r s =
-    told_with event e heard (ended_at r.world (actor_of e.act) watches) r (with_looks (look_at event r.world (actor_of e.act) watches) s)
+    told_with event e heard (ended_at r.world (actor_of e.act) watches) r
+    (with_looks e r.world (look_at event r.world (actor_of e.act) watches) s)
 
 abbrev pub with_event : ℕ → TaleEvent → Option Heard → Recording → Sentences → Sentences
 with_event event e heard r s =
-    if is_hushed heard e then ending [] event e r s else worded event e heard (look_around event e.act r.world s.watches) r s
+    if is_hushed heard e then ending [] event e s else worded event e heard (look_around event e.act r.world s.watches) r s
 
 unfoldable pub event_told : ℕ → Event → TaleEvent → Recording → Sentences → Sentences
 event_told number event e r s = with_event number e (heard_by event r (learned event e s)) r (learned event e s)

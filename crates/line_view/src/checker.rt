@@ -346,7 +346,7 @@ impl Checker {
             Err(StepFault::Node) => return Ok(Some(Reason::Node)),
             Err(StepFault::Flight) => return Ok(Some(Reason::Flight)),
         };
-        let told = event_told(row, event, &happenings, self.world.clock());
+        let told = event_told(row, event, &happenings, self.world.clock(), 0);
         self.keep(row, line, event, told)?;
         Ok(None)
     }

@@ -69,7 +69,11 @@ fn push_account_over(
     let account = Account {
         alloc,
         tale: &run.tale,
+        more: run.more.as_slice(),
+        counters: &run.counters,
+        marks: teller.marks.as_slice(),
         stories: telling.stories.as_slice(),
+        owners: telling.owners.as_slice(),
         lots: telling.lots.as_slice(),
         ends,
         index,

@@ -103,7 +103,11 @@ impl Page {
         let account = Account {
             alloc: self.alloc,
             tale: &self.run.tale,
+            more: self.run.more.as_slice(),
+            counters: &self.run.counters,
+            marks: self.teller.marks.as_slice(),
             stories: telling.stories.as_slice(),
+            owners: telling.owners.as_slice(),
             lots: telling.lots.as_slice(),
             ends,
             index,

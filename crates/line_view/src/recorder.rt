@@ -1,5 +1,5 @@
 //! A run, recorded while it is made: the world, and the tale of what its events did.
-ghost use Rattle.std.specs.Prelude.{◌≡◌, ◌≤◌, ◌<◌, ◌+◌, ◌^◌, IfOk, OnOk, length, nat_lt};
+ghost use Rattle.std.specs.Prelude.{◌≡◌, ◌≤◌, ◌<◌, ◌+◌, ◌^◌, IfOk, OnOk, Some, length, nat_lt};
 ghost use Rattle.std.specs.Option.{ForSome, option_copied};
 ghost use Rattle.plc_base.specs.declared.limits.TheConstants.{LONGEST_FRAME};
 ghost use Rattle.line_events.specs.Events.{IsEvent};
@@ -12,7 +12,7 @@ use frame_details::{FlightMore, decrypt_octets, more_of};
 use frame_words::frame_target;
 use line_events::{Answer, Event, Happenings, MAX_EVENTS, StepFault};
 use line_script::Reason;
-use line_tale::Tale;
+use line_tale::{Counters, Tale};
 use line_world::{Buffers, World};
 use plc_base::{Eui, FrameBuf, Key};
 use sentence_parts::device_of;
@@ -28,6 +28,8 @@ pub struct Recorder {
     pub tale: Tale,
     /// What the flights carry that no story goes by, by their numbers from 1.
     pub more: Vec<FlightMore>,
+    /// Which flight was sealed with which counter.
+    pub counters: Counters,
     /// The EUI-64 of each node.
     pub euis: Vec<Eui>,
     // The schedule of the last key, and the payload that was decrypted last.
@@ -49,6 +51,7 @@ impl Model for Recorder {
       events = r.tale.events.items;
       flights = r.tale.flights.items;
       more = r.more.items;
+      counters = r.counters;
       euis = r.euis.items;
     } };
 }
@@ -85,6 +88,15 @@ pub fn is_drawn(answer: Answer) -> bool
     }
 }
 
+fn number_if(flown: &[u8], octets: &[u8], number: u32) -> u32
+    ensures { result ≡ recordings.number_if (Some flown.now) octets.now number }
+{
+    if flown == octets {
+        return number;
+    }
+    0
+}
+
 // The payload of a frame, where the buffer holds it.
 fn payload_in(is_open: bool, opened: &FrameBuf) -> Option<&[u8]>
     ensures payload { option_copied result ≡ held is_open opened.now }
@@ -106,6 +118,7 @@ impl Recorder {
             world,
             tale: Tale::new(alloc),
             more: Vec::new(alloc),
+            counters: Counters::new(alloc),
             euis: Vec::new(alloc),
             aes: Aes::new(&Key([0; 16])),
             opened: FrameBuf::new(),
@@ -134,8 +147,9 @@ impl Recorder {
         let payload = payload_in(is_open, &self.opened);
         let device = device_of(&frame_target(octets), payload, self.euis.as_slice());
         self.tale.push_flight(from, note, octets, payload, device)?;
-        self.more.push(more_of(octets, payload))?;
-        Ok(())
+        let more = more_of(octets, payload);
+        self.more.push(more)?;
+        self.counters.push(number, &more)
     }
 
     // Adds so many flights after the one of this number.
@@ -147,6 +161,32 @@ impl Recorder {
             self.push_flight(before + i + 1)?;
         }
         Ok(())
+    }
+
+    // The sealed flight that has some octets, 0 where none has.
+    fn flight_of(&self, octets: &[u8], more: &FlightMore) -> u32
+        ensures { result ≡ recordings.flight_of octets.now more.now self.now }
+    {
+        if !more.sealed {
+            return 0;
+        }
+        let number = self.counters.flight(more.from, more.counter);
+        match self.world.flight(number) {
+            None => 0,
+            Some(flown) => number_if(flown, octets, number),
+        }
+    }
+
+    // The flight whose octets an event injects, 0 where none has them.
+    fn same_flight(&self, event: &Event<'_>) -> u32
+        ensures { result ≡ recordings.same_flight event.now self.now }
+    {
+        match event {
+            Event::Inject { octets, .. } => {
+                self.flight_of(octets.octets(), &more_of(octets.octets(), None))
+            }
+            _ => 0,
+        }
     }
 
     // Adds the event that made the world what it is, and the flights after so many.
@@ -162,7 +202,8 @@ impl Recorder {
     {
         push_eui(&mut self.euis, made_eui(event))?;
         let clock = self.world.clock();
-        self.tale.push_event(row, event, happenings, clock)?;
+        let same = self.same_flight(event);
+        self.tale.push_event(row, event, happenings, clock, same)?;
         let count = self.world.counts().flights.saturating_sub(before);
         self.push_flights(before, count)
     }

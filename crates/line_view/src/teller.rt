@@ -1,23 +1,22 @@
 //! The sentences of a run, made while it goes on.
-ghost use Rattle.std.specs.Prelude.{◌≡◌, ◌<◌, ◌^◌, IfOk, OnOk, is_some, slice_get, string_bytes};
+ghost use Rattle.std.specs.Prelude.{◌≡◌, IfOk, OnOk, is_some, slice_get, string_bytes};
 ghost use Rattle.node_rules.specs.Showing.{nothing_shown};
 ghost use Rattle.event_sentences.specs.Texts.{event_text};
 ghost use Rattle.line_rules.specs.Worlds.{node_at};
 ghost use Rattle.line_view.specs.Sentences as spec_sentences;
 
 use crate::recorder::{Recorder, is_drawn};
-use event_sentences::{Counters, DrawnKey, Heard, Moment, Watch, heard_flight, heard_octets};
-use frame_details::FlightMore;
+use event_sentences::{DrawnKey, Heard, Moment, Watch, heard_flight, heard_octets};
 use line_events::{Answer, Event};
 use line_stories::push_home;
 use line_tale::{Act, TaleEvent, actor_of, made_by, makes_node};
 use line_world::World;
-use node_rules::{Shown, ShownPeers, ShownRoute, ShownRoutes};
+use node_rules::{Shown, ShownPeer, ShownPeers, ShownRoute, ShownRoutes};
 use plc_base::{FrameBuf, Key};
 use sentence_parts::{Who, who_of};
 use std::alloc::{AllocError, Global};
 use std::marker::Model;
-use story_accounts::{is_for_another, numbered};
+use story_accounts::{Marks, is_for_another, numbered};
 
 /// A line has at most so many nodes.
 pub const MOST_NODES: usize = 1000;
@@ -32,7 +31,8 @@ pub struct Teller {
     homes: Vec<u32>,
     keys: Vec<DrawnKey>,
     watches: Vec<Watch>,
-    counters: Counters,
+    /// The marks that each node showed last.
+    pub marks: Vec<Marks>,
     // What a node shows that was looked at last, and the payload that was opened last.
     shown: Shown,
     opened: FrameBuf,
@@ -49,7 +49,7 @@ impl Model for Teller {
       homes = t.homes.items;
       keys = t.keys.items;
       watches = t.watches.items;
-      counters = t.counters;
+      marks = t.marks.items;
     } };
 }
 
@@ -130,21 +130,6 @@ fn is_flight_hushed(run: &Recorder, number: u32, homes: &[u32], told: &TaleEvent
     !is_at(&to, actor_of(&told.act))
 }
 
-// Adds flights from this number on.
-fn push_counters(
-    counters: &mut Counters,
-    first: usize,
-    flights: &[FlightMore],
-) -> Result<(), AllocError>
-    requires { first < 2 ^ 32 }
-    ensures { OnOk result (counters.new ≡ spec_sentences.counters_from first 0 flights.now counters.old) }
-{
-    for (i, more) in flights.iter().enumerate() {
-        counters.push(first + i, more)?;
-    }
-    Ok(())
-}
-
 // The flight of a number, as it comes to a node.
 #[tactic(auto, unfolding(crate::specs::Sentences::flight_heard))]
 fn flight_heard(run: &Recorder, number: u32, homes: &[u32]) -> Option<Heard>
@@ -171,6 +156,26 @@ fn push_watch(watches: &mut Vec<Watch>, alloc: Global, makes: bool) -> Result<()
         watches.push(Watch::new(alloc))?;
     }
     Ok(())
+}
+
+fn push_marks(marks: &mut Vec<Marks>, alloc: Global, makes: bool) -> Result<(), AllocError>
+    ensures { OnOk result (marks.new.items ≡ spec_sentences.marks_with makes marks.old.items) }
+{
+    if makes {
+        marks.push(Marks::new(alloc))?;
+    }
+    Ok(())
+}
+
+// The marks that a node shows after an event.
+fn set_marks(marks: &mut Vec<Marks>, node: u32, peers: &[ShownPeer]) -> Result<(), AllocError>
+    ensures { OnOk result (marks.new.items ≡ spec_sentences.marks_set node peers.now marks.old.items) }
+{
+    let place = node as usize;
+    if place >= marks.len() {
+        return Ok(());
+    }
+    marks[place].set(peers)
 }
 
 fn note_at(watches: &mut Vec<Watch>, event: usize, told: &TaleEvent) -> Result<(), AllocError>
@@ -290,7 +295,7 @@ impl Teller {
             homes: Vec::new(alloc),
             keys: Vec::new(alloc),
             watches: Vec::new(alloc),
-            counters: Counters::new(alloc),
+            marks: Vec::new(alloc),
             shown: nothing_shown(),
             opened: FrameBuf::new(),
         }
@@ -303,7 +308,8 @@ impl Teller {
     {
         push_home(&mut self.homes, told)?;
         push_key(&mut self.keys, event, told.answer)?;
-        push_watch(&mut self.watches, self.alloc, makes_node(&told.act))
+        push_watch(&mut self.watches, self.alloc, makes_node(&told.act))?;
+        push_marks(&mut self.marks, self.alloc, makes_node(&told.act))
     }
 
     // The frame that came at an event.
@@ -339,17 +345,9 @@ impl Teller {
 
     // Adds the words of an event, which is noted.
     #[tactic(auto, unfolding(crate::specs::Sentences::ending))]
-    fn end(
-        &mut self,
-        words: String,
-        event: usize,
-        told: &TaleEvent,
-        run: &Recorder,
-    ) -> Result<(), AllocError>
-        ensures { OnOk result (self.new ≡ spec_sentences.ending (string_bytes words) event told.now run.now self.old) }
+    fn end(&mut self, words: String, event: usize, told: &TaleEvent) -> Result<(), AllocError>
+        ensures { OnOk result (self.new ≡ spec_sentences.ending (string_bytes words) event told.now self.old) }
     {
-        let more = made_by(told, run.more.as_slice());
-        push_counters(&mut self.counters, told.first_flight as usize, more)?;
         note_at(&mut self.watches, event, told)?;
         self.sentences.push(words)?;
         Ok(())
@@ -377,7 +375,7 @@ impl Teller {
             shown,
             watch: self.watches.get(node as usize),
             ended,
-            counters: &self.counters,
+            counters: &run.counters,
             homes: self.homes.as_slice(),
             euis: run.euis.as_slice(),
         };
@@ -413,8 +411,10 @@ impl Teller {
             event,
             actor_of(&told.act),
         )?;
+        let node = actor_of(&told.act);
+        set_marks(&mut self.marks, node, self.shown.peers.peers())?;
         let words = self.text(run, told, heard, &self.shown, ended)?;
-        self.end(words, event, told, run)
+        self.end(words, event, told)
     }
 
     // Adds the sentence of an event of this number, which the run took last.
@@ -432,7 +432,7 @@ impl Teller {
         self.learn(event, told)?;
         if self.is_hushed(run, event, told) {
             let no_words = String::new(self.alloc);
-            return self.end(no_words, number, told, run);
+            return self.end(no_words, number, told);
         }
         let heard = self.heard(run, event);
         self.word(run, number, told, &heard)

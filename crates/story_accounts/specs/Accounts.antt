@@ -1,6 +1,8 @@
 -- A run with its stories and its sentences.
 use Rattle.std.specs.Prelude.{ℕ, List, [], Option, None, Some}
 use Rattle.plc_base.specs.declared.address.Eui.{Eui}
+use Rattle.node_rules.specs.declared.shown.ShownPeer.{ShownPeer}
+use Rattle.frame_details.specs.declared.detail.FlightMore.{FlightMore}
 use Rattle.line_script.specs.AnswerWords.{answer_word}
 use Rattle.line_tale.specs.declared.told.TaleEvent.{TaleEvent}
 use Rattle.line_tale.specs.declared.told.TaleFlight.{TaleFlight}
@@ -17,7 +19,15 @@ use Rattle.story_accounts.specs.Indexes.{Index, numbers_or_none}
 pub record RunAccount : Type 0 where
   pub events : List TaleEvent
   pub flights : List TaleFlight
+  -- what the flights carry that no story goes by
+  pub more : List FlightMore
+  -- which flight was sealed with which counter
+  pub counters : List ((ℕ × ℕ) × ℕ)
+  -- the marks that each node showed last
+  pub marks : List (List ShownPeer)
   pub stories : List Story
+  -- the story of each event
+  pub owners : List ℕ
   -- what became of each flight
   pub lots : List Lot
   -- the ends of each story

@@ -1,24 +1,28 @@
 -- What became of a flight, in words.
-use Rattle.std.specs.Prelude.{ℕ, ◌+◌, ◌==◌, ◌&&◌, Bool, true, false, not, List, [], ◌∷◌, ◌++◌, codes, take, Option, None, Some, if◌then◌else◌}
+use Rattle.std.specs.Prelude.{ℕ, ◌+◌, ◌==◌, ◌&&◌, Bool, true, false, not, nat_le, List, [], ◌∷◌, ◌++◌, codes, slice_get, take}
+use Rattle.std.specs.Prelude.{Option, None, Some, if◌then◌else◌}
 use Rattle.frame_words.specs.declared.gist.FrameTarget.{FrameTarget}
 use Rattle.frame_words.specs.declared.gist.FrameTarget.TheVariants as targets
 use Rattle.frame_words.specs.declared.kind.PayloadKind.{PayloadKind}
 use Rattle.frame_words.specs.declared.kind.PayloadKind.TheVariants as kinds
 use Rattle.frame_words.specs.Kinds.{kind_word}
 use Rattle.line_script.specs.AnswerWords.{answer_word}
-use Rattle.line_tale.specs.declared.act.Act.{Act}
-use Rattle.line_tale.specs.declared.act.Act.TheVariants as acts
 use Rattle.line_tale.specs.declared.told.TaleEvent.{TaleEvent}
 use Rattle.line_tale.specs.declared.told.TaleFlight.{TaleFlight}
 use Rattle.line_tale.specs.declared.lot.Lot.{Lot}
 use Rattle.line_tale.specs.declared.lot.Fate.{Fate}
 use Rattle.line_tale.specs.declared.lot.Fate.TheVariants as fates
+use Rattle.node_rules.specs.declared.shown.ShownPeer.{ShownPeer}
+use Rattle.frame_details.specs.declared.detail.FlightMore.{FlightMore}
+use Rattle.line_tale.specs.Counters.{flight_with}
+use Rattle.line_tale.specs.Kinds.{actor_of, takes_counter}
 use Rattle.line_tale.specs.Tales.{numbered}
 use Rattle.line_tale.specs.Verdicts.{went_on}
 use Rattle.sentence_parts.specs.declared.part.Part.TheVariants.{Words, Number, Node, Place}
 use Rattle.sentence_parts.specs.Parts.{parts_text}
 use Rattle.sentence_parts.specs.Whos.{who_of}
-use Rattle.story_accounts.specs.Indexes.{hearings_at}
+use Rattle.story_accounts.specs.Indexes.{hearings_at, restart_at}
+use Rattle.story_accounts.specs.PeerMarks.{mark_in}
 use Rattle.story_accounts.specs.Accounts.{RunAccount, answer_at, why}
 
 abbrev pub two_words : List ℕ → List ℕ → List ℕ
@@ -26,16 +30,11 @@ two_words first second = parts_text (Words first ∷ Words second ∷ [])
 
 -- # Flights to all
 
--- the node that hears a frame
-abbrev pub hearer : Act → ℕ
-hearer (acts.Deliver flight node cost) = node
-hearer _ = 0
-
 abbrev pub hearer_by : Option TaleEvent → ℕ → List ℕ
 hearer_by None event = []
 hearer_by (Some e) event =
     parts_text
-    (Node (hearer e.act) ∷ Words (codes " ") ∷ Words (answer_word e.answer) ∷ Words (codes " (event ") ∷ Number event ∷ Words (codes ")") ∷ [])
+    (Node (actor_of e.act) ∷ Words (codes " ") ∷ Words (answer_word e.answer) ∷ Words (codes " (event ") ∷ Number event ∷ Words (codes ")") ∷ [])
 
 -- a node that heard a flight, by the event, and what it answered
 unfoldable pub hearer_text : RunAccount → ℕ → List ℕ
@@ -71,17 +70,19 @@ unreached_text number flight fate =
     (Words (codes "the ") ∷ Words (what_word flight.kind) ∷ Words (codes " (flight ") ∷ Number number ∷ Words (codes " of ") ∷ Node flight.from
     ∷ Words (codes ") reached no node") ∷ Words (lost_words fate) ∷ [])
 
--- the first three nodes that heard it stand for all
-unfoldable pub refused_by_all_text : RunAccount → ℕ → TaleFlight → List ℕ
-refused_by_all_text a number flight =
+-- with the nodes that heard it at these events
+unfoldable pub refused_by_all_text : RunAccount → ℕ → TaleFlight → List ℕ → List ℕ
+refused_by_all_text a number flight events =
     parts_text
     (Words (codes "the ") ∷ Words (what_word flight.kind) ∷ Words (codes " (flight ") ∷ Number number
     ∷ Words (codes ") was refused by all that heard it: ") ∷ [])
-    ++ hearers_from a 0 (take 3 (hearings_at a.index number))
+    ++ hearers_from a 0 events
 
 -- a flight to all that nobody took
 abbrev pub unheard_text : RunAccount → ℕ → TaleFlight → Fate → List ℕ
-unheard_text a number flight fate = if is_mute fate then unreached_text number flight fate else refused_by_all_text a number flight
+-- the first three nodes that heard it stand for all
+unheard_text a number flight fate =
+    if is_mute fate then unreached_text number flight fate else refused_by_all_text a number flight (take 3 (hearings_at a.index number))
 
 -- # Flights to one node
 
@@ -95,8 +96,62 @@ abbrev pub missed_words : Bool → List ℕ
 missed_words true = codes " was never delivered to it (heard by others)"
 missed_words false = codes " was never delivered to it"
 
-unfoldable pub missed_text : RunAccount → ℕ → TaleFlight → Bool → List ℕ
-missed_text a number flight overheard = two_words (way_text a number flight) (missed_words overheard)
+-- the marks of a node
+abbrev pub marks_or_none : Option (List ShownPeer) → List ShownPeer
+marks_or_none None = []
+marks_or_none (Some peers) = peers
+
+abbrev pub marks_at : RunAccount → ℕ → List ShownPeer
+marks_at a node = marks_or_none (slice_get a.marks node)
+
+-- whether a node takes the counter of a frame at an event
+abbrev pub is_taken_by : Option TaleEvent → ℕ → Bool
+is_taken_by None node = false
+is_taken_by (Some e) node = takes_counter e.answer && (actor_of e.act == node)
+
+-- the first of these events at which a node takes the counter of a frame, 0 where there is none
+abbrev pub taken_in : RunAccount → ℕ → List ℕ → ℕ
+taken_in a node [] = 0
+taken_in a node (event ∷ events) = if is_taken_by (numbered a.events event) node then event else taken_in a node events
+
+unfoldable pub overtaker_text : ℕ → ℕ → List ℕ
+overtaker_text flight event =
+    parts_text (Words (codes " (flight ") ∷ Number flight ∷ Words (codes ", event ") ∷ Number event ∷ Words (codes ")") ∷ [])
+
+abbrev pub restart_text : ℕ → List ℕ
+restart_text event =
+    if event == 0 then [] else parts_text (Words (codes " that it has since its restart (event ") ∷ Number event ∷ Words (codes ")") ∷ [])
+
+-- what raised a mark of a node: a flight that it took at an event, or its restart
+abbrev pub raised_by : ℕ → ℕ → RunAccount → ℕ → List ℕ
+raised_by event flight a node = if event == 0 then restart_text (restart_at a.index node) else overtaker_text flight event
+
+abbrev pub raised_text : ℕ → RunAccount → ℕ → List ℕ
+raised_text flight a node = raised_by (taken_in a node (hearings_at a.index flight)) flight a node
+
+unfoldable pub refusing_text : ℕ → ℕ → List ℕ
+refusing_text counter mark =
+    parts_text (Words (codes ", and would be refused: its counter ") ∷ Number counter ∷ Words (codes " is not above the mark ") ∷ Number mark ∷ [])
+
+abbrev pub would_by : Option ℕ → FlightMore → RunAccount → ℕ → List ℕ
+would_by None more a node = []
+would_by (Some mark) more a node =
+    if nat_le more.counter mark then refusing_text more.counter mark ++ raised_text (flight_with more.from mark a.counters) a node else []
+
+-- whether a flight would be refused by the node that it is for, by the mark that this node has of its sender at the end
+abbrev pub would_at : Option ℕ → FlightMore → RunAccount → List ℕ
+would_at None more a = []
+would_at (Some node) more a = if more.sealed then would_by (mark_in more.from (marks_at a node)) more a node else []
+
+abbrev pub would_with : Option FlightMore → Option ℕ → RunAccount → List ℕ
+would_with None to a = []
+would_with (Some more) to a = would_at to more a
+
+abbrev pub would_text : RunAccount → ℕ → Option ℕ → List ℕ
+would_text a number to = would_with (numbered a.more number) to a
+
+unfoldable pub missed_text : RunAccount → ℕ → TaleFlight → Lot → List ℕ
+missed_text a number flight lot = two_words (way_text a number flight) (missed_words lot.overheard) ++ would_text a number lot.to
 
 unfoldable pub lost_text : RunAccount → ℕ → TaleFlight → ℕ → List ℕ
 lost_text a number flight event =
@@ -117,12 +172,12 @@ taken_text number event =
     (Words (codes "the last of it, flight ") ∷ Number number ∷ Words (codes ", was taken at event ") ∷ Number event
     ∷ Words (codes "; nothing followed") ∷ [])
 
-abbrev pub single_text : Fate → RunAccount → ℕ → TaleFlight → Bool → List ℕ
-single_text fates.Missed a number flight overheard = missed_text a number flight overheard
-single_text (fates.Lost event) a number flight overheard = lost_text a number flight event
-single_text (fates.Refused event) a number flight overheard = refused_text a number event
-single_text (fates.Reported event) a number flight overheard = reported_text a event
-single_text (fates.WentOn event) a number flight overheard = taken_text number event
+abbrev pub single_text : Fate → RunAccount → ℕ → TaleFlight → Lot → List ℕ
+single_text fates.Missed a number flight lot = missed_text a number flight lot
+single_text (fates.Lost event) a number flight lot = lost_text a number flight event
+single_text (fates.Refused event) a number flight lot = refused_text a number event
+single_text (fates.Reported event) a number flight lot = reported_text a event
+single_text (fates.WentOn event) a number flight lot = taken_text number event
 
 -- # Any flight
 
@@ -133,7 +188,7 @@ is_to_all _ = false
 abbrev pub found_text : RunAccount → ℕ → TaleFlight → Lot → List ℕ
 found_text a number flight lot =
     if is_to_all flight.target && not (went_on lot.fate) then unheard_text a number flight lot.fate
-    else single_text lot.fate a number flight lot.overheard
+    else single_text lot.fate a number flight lot
 
 abbrev pub fate_by : Option TaleFlight → Option Lot → RunAccount → ℕ → List ℕ
 fate_by None lot a number = codes "nothing went out"

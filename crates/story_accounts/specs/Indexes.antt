@@ -73,17 +73,40 @@ requests_from place (flight ∷ flights) requests = requests_from (place + 1) fl
 abbrev pub requests_of : ℕ → List TaleFlight → List (List ℕ)
 requests_of nodes flights = requests_from 0 flights (nothing_by nodes)
 
--- # Hearings
+-- # Searches for routes
 
--- the flight that comes to a node at an event, 0 where none does
-abbrev pub flight_heard : Act → ℕ
-flight_heard (acts.Deliver flight node cost) = flight
-flight_heard _ = 0
+abbrev pub searches_from : ℕ → List Lot → List (List ℕ) → List (List ℕ)
+searches_from place [] searches = searches
+searches_from place (lot ∷ lots) searches = searches_from (place + 1) lots (changed_at lot.search (with_number (place + 1)) searches)
+
+-- the flights of each search, by the number of the request that began it
+abbrev pub searches_of : List Lot → List (List ℕ)
+searches_of lots = searches_from 0 lots (nothing_by (length lots))
+
+-- # Restarts
+
+-- the place of a node, from 1, where an event restarts it; 0 else
+abbrev pub restarted : Act → ℕ
+restarted (acts.Restart node) = node + 1
+restarted _ = 0
+
+abbrev pub later : ℕ → ℕ → ℕ
+later event old = event
+
+abbrev pub restarts_from : ℕ → List TaleEvent → List ℕ → List ℕ
+restarts_from place [] restarts = restarts
+restarts_from place (e ∷ es) restarts = restarts_from (place + 1) es (changed_at (restarted e.act) (later (place + 1)) restarts)
+
+-- the last restart of each node
+abbrev pub restarts_of : ℕ → List TaleEvent → List ℕ
+restarts_of nodes es = restarts_from 0 es (replicate nodes 0)
+
+-- # Hearings
 
 abbrev pub hearings_from : ℕ → List TaleEvent → List (List ℕ) → List (List ℕ)
 hearings_from place [] hearings = hearings
 hearings_from place (e ∷ es) hearings =
-    hearings_from (place + 1) es (changed_at (flight_heard e.act) (with_number (place + 1)) hearings)
+    hearings_from (place + 1) es (changed_at e.came (with_number (place + 1)) hearings)
 
 -- the events at which each flight came to a node
 abbrev pub hearings_of : ℕ → List TaleEvent → List (List ℕ)
@@ -123,6 +146,10 @@ pub record Index : Type 0 where
   pub hearings : List (List ℕ)
   -- the route requests that each node began, where node 0 is the first
   pub requests : List (List ℕ)
+  -- the flights of each search for a route, by the number of the request that began it
+  pub searches : List (List ℕ)
+  -- the last restart of each node, where node 0 is the first; 0 where there was none
+  pub restarts : List ℕ
 
 -- that of a run with so many stories and nodes, by the stories of its sends and of its events
 unfoldable pub index_of : ℕ → ℕ → List TaleEvent → List TaleFlight → List Lot → List ℕ → List ℕ → Index
@@ -133,6 +160,8 @@ index_of count nodes es flights lots sent owners =
       broken = broken_of count lots;
       hearings = hearings_of (length lots) es;
       requests = requests_of nodes flights;
+      searches = searches_of lots;
+      restarts = restarts_of nodes es;
     }
 
 abbrev pub number_or_0 : Option ℕ → ℕ
@@ -142,6 +171,14 @@ number_or_0 (Some n) = n
 abbrev pub numbers_or_none : Option (List ℕ) → List ℕ
 numbers_or_none None = []
 numbers_or_none (Some numbers) = numbers
+
+-- the flights of a search, by the number of the request that began it
+abbrev pub search_at : Index → ℕ → List ℕ
+search_at index request = numbers_or_none (numbered index.searches request)
+
+-- the last restart of a node, by its number from 0; 0 where there was none
+abbrev pub restart_at : Index → ℕ → ℕ
+restart_at index node = number_or_0 (slice_get index.restarts node)
 
 abbrev pub send_at : Index → ℕ → ℕ
 send_at index story = number_or_0 (numbered index.sends story)

@@ -3,5 +3,8 @@ pub mod Fates
 pub mod Groups
 pub mod Indexes
 pub mod Outcomes
+pub mod PeerMarks
+pub mod Searches
 pub mod Sections
 pub mod Titles
+pub mod Waits

@@ -12,11 +12,12 @@ use Rattle.line_tale.specs.declared.kind.StoryKind.{StoryKind}
 use Rattle.line_tale.specs.declared.kind.StoryKind.TheVariants as kinds
 use Rattle.line_tale.specs.declared.story.Story.{Story}
 use Rattle.line_tale.specs.declared.lot.Lot.{Lot}
+use Rattle.line_tale.specs.declared.kept.Kept.{Kept}
 use Rattle.line_tale.specs.declared.lot.Fate.{Fate}
 use Rattle.line_tale.specs.declared.lot.Fate.TheVariants as fates
 use Rattle.line_tale.specs.declared.verdict.Verdict.{Verdict}
 use Rattle.line_tale.specs.declared.verdict.Verdict.TheVariants as verdicts
-use Rattle.line_tale.specs.Tales.{numbered}
+use Rattle.line_tale.specs.Tales.{made_by, numbered}
 use Rattle.line_tale.specs.Verdicts.{is_good}
 use Rattle.sentence_parts.specs.declared.part.Part.TheVariants.{Words, Number}
 use Rattle.sentence_parts.specs.Parts.{parts_text}
@@ -25,7 +26,9 @@ use Rattle.story_accounts.specs.declared.section.Chosen.TheVariants as chosens
 use Rattle.story_accounts.specs.declared.section.Section.{Section}
 use Rattle.story_accounts.specs.declared.section.Section.TheVariants as sections
 use Rattle.story_accounts.specs.Indexes.{events_at, number_or_0, send_at}
-use Rattle.story_accounts.specs.Accounts.{RunAccount, answer_at, first_of, verdict_at, why}
+use Rattle.story_accounts.specs.Accounts.{RunAccount, answer_at, verdict_at, why}
+use Rattle.story_accounts.specs.Searches.{SearchReach, reach_of}
+use Rattle.story_accounts.specs.Waits.{has_taken, request_of, until_of}
 use Rattle.story_accounts.specs.Fates.{fate_text, is_mute, is_to_all, two_words}
 use Rattle.story_accounts.specs.Outcomes.{outcome_text}
 use Rattle.story_accounts.specs.Titles.{capital, title}
@@ -162,29 +165,49 @@ reason_by (Some flight) (Some lot) a = fate_reason lot.fate a flight.target
 unfoldable pub flight_reason : RunAccount → ℕ → List ℕ
 flight_reason a flight = reason_by (numbered a.flights flight) (numbered a.lots flight) a
 
-abbrev pub is_unheard : Option Lot → Bool
-is_unheard None = false
-is_unheard (Some lot) = is_mute lot.fate
+-- why a search for a route gave none, in a few words
+abbrev pub reach_reason : SearchReach → List ℕ
+reach_reason r =
+    if nat_lt 0 r.answered then codes "waited for a route: the reply did not come"
+    else (if has_taken r.states then codes "waited for a route: no node that the request reached answered it"
+    else (if length r.refusals == 0 then codes "waited for a route: the route request reached no node"
+    else codes "waited for a route: all that heard the request refused it"))
 
-abbrev pub unheard_at : RunAccount → ℕ → Bool
-unheard_at a flight = is_unheard (numbered a.lots flight)
+abbrev pub request_reason : RunAccount → ℕ → ℕ → List ℕ
+request_reason a request until = if request == 0 then codes "nothing went out" else reach_reason (reach_of a request until)
 
-abbrev pub waited_words : Bool → List ℕ
-waited_words true = codes "waited for a route: "
-waited_words false = []
+abbrev pub kept_by : Option TaleEvent → RunAccount → Story → Kept → List ℕ
+kept_by None a story k = codes "nothing went out"
+kept_by (Some e) a story k = request_reason a (request_of a story k e) (until_of k.end (length a.events))
 
-abbrev pub verdict_reason : Verdict → RunAccount → ℕ → List ℕ
-verdict_reason verdicts.NotBegun a first = two_words (codes "refused at once: ") (answer_at a first)
-verdict_reason (verdicts.NeverLeft last) a first = two_words (waited_words (unheard_at a last)) (flight_reason a last)
-verdict_reason (verdicts.Ended flight) a first = flight_reason a flight
-verdict_reason (verdicts.Loose last) a first = flight_reason a last
-verdict_reason (verdicts.TookOnly event last) a first = flight_reason a last
-verdict_reason (verdicts.Declined event) a first = codes "the meter was not allowed"
-verdict_reason _ a first = codes "FORGED"
+-- why what waits or waited of a story has no route
+abbrev pub kept_reason : RunAccount → Story → Kept → List ℕ
+kept_reason a story k = kept_by (numbered a.events k.event) a story k
+
+abbrev pub loose_reason : Option Kept → RunAccount → Story → ℕ → List ℕ
+loose_reason None a story last = flight_reason a last
+loose_reason (Some k) a story last = kept_reason a story k
+
+abbrev pub piece_reason : Option Kept → List ℕ → List ℕ
+piece_reason None rest = rest
+piece_reason (Some k) rest = codes "a piece that was gathered ended"
+
+abbrev pub verdict_reason : Verdict → RunAccount → Story → List ℕ
+verdict_reason verdicts.NotBegun a story = two_words (codes "refused at once: ") (answer_at a story.first)
+verdict_reason (verdicts.NeverLeft last) a story = loose_reason story.waits a story last
+verdict_reason (verdicts.Ended flight) a story = piece_reason story.ended (flight_reason a flight)
+verdict_reason (verdicts.Loose last) a story = piece_reason story.ended (loose_reason story.waits a story last)
+verdict_reason (verdicts.TookOnly event last) a story = loose_reason story.waits a story last
+verdict_reason (verdicts.Declined event) a story = codes "the meter was not allowed"
+verdict_reason _ a story = codes "FORGED"
+
+abbrev pub reason_of : Option Story → RunAccount → ℕ → List ℕ
+reason_of None a number = []
+reason_of (Some story) a number = verdict_reason (verdict_at a number) a story
 
 -- why a story failed, in a few words
 unfoldable pub reason : RunAccount → ℕ → List ℕ
-reason a story = verdict_reason (verdict_at a story) a (first_of a story)
+reason a number = reason_of (numbered a.stories number) a number
 
 abbrev pub joined_if : Bool → List ℕ → ℕ → List WordGroup → List WordGroup
 joined_if true word n groups = joined word n groups
@@ -251,9 +274,43 @@ event_by (Some e) a event = if is_shown a event e then event_line a event e else
 abbrev pub event_text : RunAccount → ℕ → List ℕ
 event_text a event = event_by (numbered a.events event) a event
 
-abbrev pub events_text : RunAccount → List ℕ → List ℕ
-events_text a [] = []
-events_text a (event ∷ events) = event_text a event ++ events_text a events
+abbrev pub left_words : StoryKind → List ℕ
+left_words kinds.Datagram = codes "the datagram left as flight "
+left_words _ = codes "the message left as flight "
+
+abbrev pub is_of : ℕ → Lot → Bool
+is_of number lot = lot.story == number
+
+unfoldable pub left_by : ℕ → ℕ → List ℕ → ℕ → List ℕ
+left_by event line what flight =
+    parts_text
+    (Words (codes "      event ") ∷ Number event ∷ Words (codes ", line ") ∷ Number line ∷ Words (codes ": ") ∷ Words what ∷ Number flight
+    ∷ Words (codes ".\n") ∷ [])
+
+abbrev pub left_at : Option ℕ → ℕ → TaleEvent → Story → List ℕ
+left_at None event e story = []
+left_at (Some place) event e story = left_by event e.line (left_words story.kind) (e.first_flight + place)
+
+-- what left of a story at an event of another one, by the first flight of it
+abbrev pub left_text : RunAccount → ℕ → TaleEvent → ℕ → Story → List ℕ
+left_text a event e number story = left_at (position (is_of number) (made_by e a.lots)) event e story
+
+abbrev pub left_with : Option TaleEvent → RunAccount → ℕ → ℕ → Story → List ℕ
+left_with None a event number story = []
+left_with (Some e) a event number story = left_text a event e number story
+
+abbrev pub is_owner : Option ℕ → ℕ → Bool
+is_owner None number = false
+is_owner (Some owner) number = owner == number
+
+-- an event of a story, or of another one at which a flight of the story went out
+abbrev pub story_event : RunAccount → ℕ → ℕ → Story → List ℕ
+story_event a event number story =
+    if is_owner (numbered a.owners event) number then event_text a event else left_with (numbered a.events event) a event number story
+
+abbrev pub events_text : RunAccount → List ℕ → ℕ → Story → List ℕ
+events_text a [] number story = []
+events_text a (event ∷ events) number story = story_event a event number story ++ events_text a events number story
 
 abbrev pub verdict_line : List ℕ → List ℕ
 verdict_line outcome = if length outcome == 0 then [] else codes "    " ++ (capital outcome ++ codes ".\n")
@@ -261,13 +318,13 @@ verdict_line outcome = if length outcome == 0 then [] else codes "    " ++ (capi
 unfoldable pub story_head : RunAccount → ℕ → Story → List ℕ
 story_head a number story = codes "\n  " ++ (capital (title a number story) ++ (codes "\n" ++ verdict_line (outcome_text a number)))
 
-abbrev pub whole_events : Bool → RunAccount → ℕ → List ℕ
-whole_events true a number = events_text a (events_at a.index number)
-whole_events false a number = []
+abbrev pub whole_events : Bool → RunAccount → ℕ → Story → List ℕ
+whole_events true a number story = events_text a (events_at a.index number) number story
+whole_events false a number story = []
 
 -- a story: what it is about, its verdict, and, where it is whole, its events
 abbrev pub story_text : RunAccount → ℕ → Story → Bool → List ℕ
-story_text a number story whole = story_head a number story ++ whole_events whole a number
+story_text a number story whole = story_head a number story ++ whole_events whole a number story
 
 -- whether good stories are told in short, or left out where there are many
 abbrev pub is_brief : Chosen → Bool

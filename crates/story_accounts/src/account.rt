@@ -5,9 +5,11 @@ ghost use Rattle.sentence_parts.specs.Parts.{parts_text};
 ghost use Rattle.story_accounts.specs.Accounts as accounts;
 
 use crate::index::Index;
+use crate::marks::Marks;
 use crate::numbers::numbered;
+use frame_details::FlightMore;
 use line_script::answer_word;
-use line_tale::{Ends, Lot, Story, Tale, TaleEvent, TaleFlight, Verdict, verdict_of};
+use line_tale::{Counters, Ends, Lot, Story, Tale, TaleEvent, TaleFlight, Verdict, verdict_of};
 use plc_base::Eui;
 use sentence_parts::{Part, sentence};
 use std::alloc::{AllocError, Global};
@@ -20,8 +22,16 @@ pub struct Account<'a> {
     pub alloc: Global,
     /// The run.
     pub tale: &'a Tale,
+    /// What its flights carry that no story goes by.
+    pub more: &'a [FlightMore],
+    /// Which flight was sealed with which counter.
+    pub counters: &'a Counters,
+    /// The marks that each node showed last.
+    pub marks: &'a [Marks],
     /// Its stories.
     pub stories: &'a [Story],
+    /// The story of each event.
+    pub owners: &'a [usize],
     /// What became of each flight.
     pub lots: &'a [Lot],
     /// The ends of the stories.
@@ -45,7 +55,11 @@ impl<'a> Model for Account<'a> {
     ghost view = { λ a. record {
       events = a.tale.now.events.items;
       flights = a.tale.now.flights.items;
+      more = a.more.now;
+      counters = a.counters.now;
+      marks = a.marks.now;
       stories = a.stories.now;
+      owners = a.owners.now;
       lots = a.lots.now;
       ends = a.ends.now;
       index = a.index.now;
@@ -99,6 +113,7 @@ impl<'a> Account<'a> {
             Some(ends) => ends,
             None => Ends {
                 last: 0,
+                borne: 0,
                 bears: false,
                 broken: 0,
             },

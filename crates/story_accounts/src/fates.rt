@@ -1,23 +1,18 @@
 //! What became of a flight, in words.
 ghost use Rattle.std.specs.Prelude.{◌≡◌, ◌++◌, IfOk, OnOk, string_bytes};
+ghost use Rattle.line_tale.specs.Tales.{numbered};
 ghost use Rattle.line_tale.specs.Verdicts.{went_on};
+ghost use Rattle.story_accounts.specs.PeerMarks.{mark_in};
 ghost use Rattle.story_accounts.specs.Fates as spec_fates;
 
 use crate::account::Account;
+use crate::numbers::numbered;
+use frame_details::FlightMore;
 use frame_words::{FrameTarget, PayloadKind, kind_word};
 use line_script::answer_word;
-use line_tale::{Act, Fate, Lot, TaleFlight, went_on};
+use line_tale::{Fate, Lot, TaleFlight, actor_of, takes_counter, went_on};
 use sentence_parts::{node, number, place, push_parts, sentence, who_of, words};
 use std::alloc::{AllocError, Global};
-
-fn hearer(act: &Act) -> u32
-    ensures { result ≡ spec_fates.hearer act.now }
-{
-    match act {
-        Act::Deliver { node, .. } => *node,
-        _ => 0,
-    }
-}
 
 // What a flight to all is.
 fn what_word(kind: PayloadKind) -> &'static str
@@ -97,7 +92,7 @@ impl<'a> Account<'a> {
             text,
             self.alloc,
             &[
-                node(hearer(&told.act)),
+                node(actor_of(&told.act)),
                 words(" "),
                 words(answer_word(told.answer)),
                 words(" (event "),
@@ -117,8 +112,9 @@ impl<'a> Account<'a> {
         Ok(())
     }
 
+    /// A flight to all that no node heard.
     #[tactic(auto, unfolding(crate::specs::Fates::unreached_text))]
-    fn unreached_text(
+    pub fn unreached_text(
         &self,
         flight: usize,
         told: &TaleFlight,
@@ -139,10 +135,14 @@ impl<'a> Account<'a> {
     }
 
     #[tactic(auto, unfolding(crate::specs::Fates::refused_by_all_text))]
-    fn refused_by_all_text(&self, flight: usize, told: &TaleFlight) -> Result<String, AllocError>
-        ensures { IfOk result (λ text. string_bytes text ≡ spec_fates.refused_by_all_text self.now flight told.now) }
+    pub fn refused_by_all_text(
+        &self,
+        flight: usize,
+        told: &TaleFlight,
+        events: &[usize],
+    ) -> Result<String, AllocError>
+        ensures { IfOk result (λ text. string_bytes text ≡ spec_fates.refused_by_all_text self.now flight told.now events.now) }
     {
-        let hearings = self.index.hearings(flight);
         let mut text = self.say(&[
             words("the "),
             words(what_word(told.kind)),
@@ -150,7 +150,7 @@ impl<'a> Account<'a> {
             number(flight),
             words(") was refused by all that heard it: "),
         ])?;
-        self.push_hearers(&mut text, &hearings[..hearings.len().min(3)])?;
+        self.push_hearers(&mut text, events)?;
         Ok(text)
     }
 
@@ -166,11 +166,13 @@ impl<'a> Account<'a> {
         if is_mute(fate) {
             return self.unreached_text(flight, told, fate);
         }
-        self.refused_by_all_text(flight, told)
+        let hearings = self.index.hearings(flight);
+        self.refused_by_all_text(flight, told, &hearings[..hearings.len().min(3)])
     }
 
     #[tactic(auto, unfolding(crate::specs::Fates::way_text))]
-    fn way_text(&self, flight: usize, told: &TaleFlight) -> Result<String, AllocError>
+    /// A flight with its number, from whom to whom.
+    pub fn way_text(&self, flight: usize, told: &TaleFlight) -> Result<String, AllocError>
         ensures { IfOk result (λ text. string_bytes text ≡ spec_fates.way_text self.now flight told.now) }
     {
         self.say(&[
@@ -183,17 +185,160 @@ impl<'a> Account<'a> {
         ])
     }
 
-    #[tactic(auto, unfolding(crate::specs::Fates::missed_text))]
-    fn missed_text(
+    fn is_taken_at(&self, event: usize, node: u32) -> bool
+        ensures { result ≡ spec_fates.is_taken_by (numbered self.now.events event) node }
+    {
+        match self.event(event) {
+            None => false,
+            Some(told) => takes_counter(told.answer) && actor_of(&told.act) == node,
+        }
+    }
+
+    // The first of these events at which a node takes the counter of a frame, 0 where there is none.
+    fn taken_in(&self, node: u32, events: &[usize]) -> usize
+        ensures { result ≡ spec_fates.taken_in self.now node events.now }
+    {
+        for event in events {
+            if self.is_taken_at(*event, node) {
+                return *event;
+            }
+        }
+        0
+    }
+
+    fn push_restart(&self, text: &mut String, event: usize) -> Result<(), AllocError>
+        ensures { OnOk result (string_bytes text.new ≡ string_bytes text.old ++ spec_fates.restart_text event) }
+    {
+        if event == 0 {
+            return Ok(());
+        }
+        push_parts(
+            text,
+            self.alloc,
+            &[
+                words(" that it has since its restart (event "),
+                number(event),
+                words(")"),
+            ],
+        )
+    }
+
+    fn push_overtaker(
         &self,
+        text: &mut String,
         flight: usize,
-        told: &TaleFlight,
-        overheard: bool,
-    ) -> Result<String, AllocError>
-        ensures { IfOk result (λ text. string_bytes text ≡ spec_fates.missed_text self.now flight told.now overheard) }
+        event: usize,
+    ) -> Result<(), AllocError>
+        ensures { OnOk result (string_bytes text.new ≡ string_bytes text.old ++ spec_fates.overtaker_text flight event) }
+    {
+        push_parts(
+            text,
+            self.alloc,
+            &[
+                words(" (flight "),
+                number(flight),
+                words(", event "),
+                number(event),
+                words(")"),
+            ],
+        )
+    }
+
+    // What raised a mark of a node: a flight that it took, or its restart.
+    fn push_raised(&self, text: &mut String, flight: usize, node: u32) -> Result<(), AllocError>
+        ensures { OnOk result (string_bytes text.new ≡ string_bytes text.old ++ spec_fates.raised_text flight self.now node) }
+    {
+        let event = self.taken_in(node, self.index.hearings(flight));
+        if event == 0 {
+            return self.push_restart(text, self.index.restart(node));
+        }
+        self.push_overtaker(text, flight, event)
+    }
+
+    fn push_refusing(&self, text: &mut String, counter: u32, mark: u32) -> Result<(), AllocError>
+        ensures { OnOk result (string_bytes text.new ≡ string_bytes text.old ++ spec_fates.refusing_text counter mark) }
+    {
+        push_parts(
+            text,
+            self.alloc,
+            &[
+                words(", and would be refused: its counter "),
+                number(counter as usize),
+                words(" is not above the mark "),
+                number(mark as usize),
+            ],
+        )
+    }
+
+    fn push_would_by(
+        &self,
+        text: &mut String,
+        mark: Option<u32>,
+        more: &FlightMore,
+        node: u32,
+    ) -> Result<(), AllocError>
+        ensures { OnOk result (string_bytes text.new ≡ string_bytes text.old ++ spec_fates.would_by mark more.now self.now node) }
+    {
+        let Some(mark) = mark else {
+            return Ok(());
+        };
+        if more.counter <= mark {
+            let flight = self.counters.flight(more.from, mark) as usize;
+            self.push_refusing(text, more.counter, mark)?;
+            return self.push_raised(text, flight, node);
+        }
+        Ok(())
+    }
+
+    fn mark_at(&self, node: u32, from: u16) -> Option<u32>
+        ensures { result ≡ mark_in from (spec_fates.marks_at self.now node) }
+    {
+        match self.marks.get(node as usize) {
+            None => None,
+            Some(marks) => marks.of(from),
+        }
+    }
+
+    fn push_would_at(
+        &self,
+        text: &mut String,
+        to: Option<u32>,
+        more: &FlightMore,
+    ) -> Result<(), AllocError>
+        ensures { OnOk result (string_bytes text.new ≡ string_bytes text.old ++ spec_fates.would_at to more.now self.now) }
+    {
+        let Some(node) = to else {
+            return Ok(());
+        };
+        if !more.sealed {
+            return Ok(());
+        }
+        self.push_would_by(text, self.mark_at(node, more.from), more, node)
+    }
+
+    // Whether a flight would be refused by the node that it is for.
+    fn push_would(
+        &self,
+        text: &mut String,
+        flight: usize,
+        to: Option<u32>,
+    ) -> Result<(), AllocError>
+        ensures { OnOk result (string_bytes text.new ≡ string_bytes text.old ++ spec_fates.would_text self.now flight to) }
+    {
+        match numbered(self.more, flight) {
+            None => Ok(()),
+            Some(more) => self.push_would_at(text, to, &more),
+        }
+    }
+
+    #[tactic(auto, unfolding(crate::specs::Fates::missed_text))]
+    fn missed_text(&self, flight: usize, told: &TaleFlight, lot: &Lot) -> Result<String, AllocError>
+        ensures { IfOk result (λ text. string_bytes text ≡ spec_fates.missed_text self.now flight told.now lot.now) }
     {
         let way = self.way_text(flight, told)?;
-        two_words(self.alloc, way.as_str(), missed_words(overheard))
+        let mut text = two_words(self.alloc, way.as_str(), missed_words(lot.overheard))?;
+        self.push_would(&mut text, flight, lot.to)?;
+        Ok(text)
     }
 
     #[tactic(auto, unfolding(crate::specs::Fates::lost_text))]
@@ -257,10 +402,10 @@ impl<'a> Account<'a> {
 
     fn single_text(&self, flight: usize, told: &TaleFlight, lot: &Lot) -> Result<String, AllocError>
         ensures { IfOk result (λ text. string_bytes text
-            ≡ spec_fates.single_text lot.now.fate self.now flight told.now lot.now.overheard) }
+            ≡ spec_fates.single_text lot.now.fate self.now flight told.now lot.now) }
     {
         match lot.fate {
-            Fate::Missed => self.missed_text(flight, told, lot.overheard),
+            Fate::Missed => self.missed_text(flight, told, lot),
             Fate::Lost { event } => self.lost_text(flight, told, event),
             Fate::Refused { event } => self.refused_text(flight, event),
             Fate::Reported { event } => self.reported_text(event),

@@ -24,6 +24,10 @@ pub struct Index {
     hearings: Vec<Numbers>,
     // The route requests that each node began.
     requests: Vec<Numbers>,
+    // The flights of each search for a route, by the number of the request that began it.
+    searches: Vec<Numbers>,
+    // The last restart of each node, 0 where there was none.
+    restarts: Vec<usize>,
 }
 
 impl Model for Index {
@@ -37,6 +41,8 @@ impl Model for Index {
       broken = i.broken.items;
       hearings = i.hearings.items;
       requests = i.requests.items;
+      searches = i.searches.items;
+      restarts = i.restarts.items;
     } };
 }
 
@@ -44,16 +50,6 @@ fn is_broken(lot: &Lot) -> bool
     ensures { result ≡ indexes.is_broken lot.now }
 {
     lot.bears && !went_on(&lot.fate)
-}
-
-/// The flight that comes to a node at an event, 0 where none does.
-pub fn flight_heard(act: &Act) -> usize
-    ensures { result ≡ indexes.flight_heard act.now }
-{
-    match act {
-        Act::Deliver { flight, .. } => *flight as usize,
-        _ => 0,
-    }
 }
 
 // A send of a story, if it is its first.
@@ -104,6 +100,51 @@ fn push_all_broken(broken: &mut Vec<Numbers>, lots: &[Lot]) -> Result<(), AllocE
     Ok(())
 }
 
+fn push_searches(searches: &mut Vec<Numbers>, lots: &[Lot]) -> Result<(), AllocError>
+    ensures { OnOk result (searches.new.items ≡ indexes.searches_from 0 lots.now searches.old.items) }
+{
+    for (i, lot) in lots.iter().enumerate() {
+        push_at(searches, lot.search, i + 1)?;
+    }
+    Ok(())
+}
+
+// The place of a node among restarts, from 1, where an event restarts it; 0 else.
+fn restarted(act: &Act) -> usize
+    ensures { result ≡ indexes.restarted act.now }
+{
+    match act {
+        Act::Restart { node } => *node as usize + 1,
+        _ => 0,
+    }
+}
+
+fn set_restart(restarts: &mut Vec<usize>, place: usize, event: usize)
+    ensures { restarts.new.items ≡ changed_at place (indexes.later event) restarts.old.items }
+{
+    if place == 0 || place > restarts.len() {
+        return;
+    }
+    restarts[place - 1] = event;
+}
+
+fn take_restarts(restarts: &mut Vec<usize>, events: &[TaleEvent])
+    ensures { restarts.new.items ≡ indexes.restarts_from 0 events.now restarts.old.items }
+{
+    for (i, event) in events.iter().enumerate() {
+        set_restart(restarts, restarted(&event.act), i + 1);
+    }
+}
+
+fn restarts_of(alloc: Global, nodes: usize, events: &[TaleEvent]) -> Result<Vec<usize>, AllocError>
+    ensures { IfOk result (λ restarts. restarts.items ≡ indexes.restarts_of nodes events.now) }
+{
+    let mut restarts = Vec::new(alloc);
+    restarts.resize(nodes, 0)?;
+    take_restarts(&mut restarts, events);
+    Ok(restarts)
+}
+
 fn begins_request(gist: &Gist) -> bool
     ensures { result ≡ indexes.begins_request gist.now }
 {
@@ -139,7 +180,7 @@ fn push_hearings(hearings: &mut Vec<Numbers>, events: &[TaleEvent]) -> Result<()
     ensures { OnOk result (hearings.new.items ≡ indexes.hearings_from 0 events.now hearings.old.items) }
 {
     for (i, event) in events.iter().enumerate() {
-        push_at(hearings, flight_heard(&event.act), i + 1)?;
+        push_at(hearings, event.came as usize, i + 1)?;
     }
     Ok(())
 }
@@ -220,11 +261,14 @@ impl Index {
             broken: no_numbers(alloc, count)?,
             hearings: no_numbers(alloc, lots.len())?,
             requests: no_numbers(alloc, nodes)?,
+            searches: no_numbers(alloc, lots.len())?,
+            restarts: restarts_of(alloc, nodes, tale.events.as_slice())?,
         };
         push_events(&mut index.events, tale.events.as_slice(), owners, lots)?;
         push_all_broken(&mut index.broken, lots)?;
         push_hearings(&mut index.hearings, tale.events.as_slice())?;
         push_requests(&mut index.requests, tale.flights.as_slice())?;
+        push_searches(&mut index.searches, lots)?;
         Ok(index)
     }
 
@@ -254,6 +298,23 @@ impl Index {
         ensures { result.now ≡ indexes.requests_at self.now node }
     {
         numbers_at(self.requests.as_slice(), node as usize + 1)
+    }
+
+    /// The flights of a search for a route, by the number of the request that began it.
+    pub fn search(&self, request: usize) -> &[usize]
+        ensures { result.now ≡ indexes.search_at self.now request }
+    {
+        numbers_at(self.searches.as_slice(), request)
+    }
+
+    /// The last event at which a node restarted, 0 where it never did.
+    pub fn restart(&self, node: u32) -> usize
+        ensures { result ≡ indexes.restart_at self.now node }
+    {
+        match self.restarts.get(node as usize) {
+            Some(event) => *event,
+            None => 0,
+        }
     }
 
     /// The events at which a flight came to a node.

@@ -1,27 +1,17 @@
 //! What became of a story, in words.
-ghost use Rattle.std.specs.Prelude.{◌≡◌, ◌++◌, ◌-◌, IfOk, OnOk, string_bytes};
+ghost use Rattle.std.specs.Prelude.{◌≡◌, ◌++◌, ◌-◌, IfOk, None, OnOk, Some, string_bytes};
+ghost use Rattle.story_accounts.specs.Fates.{fate_text};
+ghost use Rattle.story_accounts.specs.Waits.{loose_text};
 ghost use Rattle.story_accounts.specs.Outcomes as outcomes;
 
 use crate::account::Account;
 use crate::fates::two_words;
-use crate::index::flight_heard;
-use crate::waiting::Waited;
-use fragment_buffers::REASSEMBLY_TIME;
 use frame_words::Gist;
-use line_tale::{Story, StoryKind, TaleEvent, TaleFlight, Verdict, is_piece_held, went_on};
-use node_rules::SESSION_TIME;
+use line_tale::{Act, Kept, KeptEnd, Story, StoryKind, TaleEvent, TaleFlight, Verdict};
 use sentence_parts::{node, number, push_parts, sentence, words};
 use std::alloc::{AllocError, Global};
 
-fn piece_words(held: bool) -> &'static str
-    ensures { result.now ≡ outcomes.piece_words held }
-{
-    if held {
-        return "a piece is missing: ";
-    }
-    ""
-}
-
+#[tactic(auto, unfolding(crate::specs::Outcomes::more_text))]
 fn push_more(text: &mut String, alloc: Global, more: usize) -> Result<(), AllocError>
     ensures { OnOk result (string_bytes text.new ≡ string_bytes text.old ++ outcomes.more_text more) }
 {
@@ -53,6 +43,16 @@ fn hops_by(flight: Option<TaleFlight>) -> u8
     }
 }
 
+// The flight that is delivered at an event, 0 where none is.
+fn delivered(act: &Act) -> usize
+    ensures { result ≡ outcomes.delivered act.now }
+{
+    match act {
+        Act::Deliver { flight, .. } => *flight as usize,
+        _ => 0,
+    }
+}
+
 fn hops_word(hops: u8) -> &'static str
     ensures { result.now ≡ outcomes.hops_word hops }
 {
@@ -63,6 +63,7 @@ fn hops_word(hops: u8) -> &'static str
 }
 
 // Over how many hops a datagram came; none where injected octets brought it.
+#[tactic(auto, unfolding(crate::specs::Outcomes::over_text))]
 fn push_over(text: &mut String, alloc: Global, hops: u8) -> Result<(), AllocError>
     ensures { OnOk result (string_bytes text.new ≡ string_bytes text.old ++ outcomes.over_text hops) }
 {
@@ -80,6 +81,7 @@ fn push_over(text: &mut String, alloc: Global, hops: u8) -> Result<(), AllocErro
     )
 }
 
+#[tactic(auto, unfolding(crate::specs::Outcomes::later_text))]
 fn push_later(text: &mut String, alloc: Global, seconds: u64) -> Result<(), AllocError>
     ensures { OnOk result (string_bytes text.new ≡ string_bytes text.old ++ outcomes.later_text seconds) }
 {
@@ -150,17 +152,17 @@ fn at(alloc: Global, what: &str, event: usize) -> Result<String, AllocError>
     sentence(alloc, &[words(what), number(event)])
 }
 
-#[tactic(auto, unfolding(crate::specs::Outcomes::until_text))]
-fn until(
+fn push_until(
+    text: &mut String,
     alloc: Global,
     who: u32,
-    what: &str,
+    what: &'static str,
     event: usize,
-    loose: &str,
-) -> Result<String, AllocError>
-    ensures { IfOk result (λ text. string_bytes text ≡ outcomes.until_text who what.now event loose.now) }
+) -> Result<(), AllocError>
+    ensures { OnOk result (string_bytes text.new ≡ string_bytes text.old ++ outcomes.until_text who what.now event) }
 {
-    sentence(
+    push_parts(
+        text,
         alloc,
         &[
             words("did not come: it waited for a route until "),
@@ -169,16 +171,15 @@ fn until(
             words(" (event "),
             number(event),
             words("); "),
-            words(loose),
         ],
     )
 }
 
-#[tactic(auto, unfolding(crate::specs::Outcomes::aged_text))]
-fn aged(alloc: Global, event: usize, seconds: u64, loose: &str) -> Result<String, AllocError>
-    ensures { IfOk result (λ text. string_bytes text ≡ outcomes.aged_text event seconds loose.now) }
+fn push_aged(text: &mut String, alloc: Global, event: usize, seconds: u64) -> Result<(), AllocError>
+    ensures { OnOk result (string_bytes text.new ≡ string_bytes text.old ++ outcomes.aged_text event seconds) }
 {
-    sentence(
+    push_parts(
+        text,
         alloc,
         &[
             words("did not come: it waited for a route for "),
@@ -186,137 +187,176 @@ fn aged(alloc: Global, event: usize, seconds: u64, loose: &str) -> Result<String
             words(" s and was dropped (event "),
             number(event),
             words("); "),
-            words(loose),
         ],
     )
 }
 
-// A datagram that no flight carries.
-fn never_left(alloc: Global, waited: &Waited, who: u32, loose: &str) -> Result<String, AllocError>
-    ensures { IfOk result (λ text. string_bytes text ≡ outcomes.never_left_text waited.now who loose.now) }
+// How the wait of a datagram ended.
+#[tactic(auto, unfolding(crate::specs::Outcomes::wait_text))]
+fn push_wait(text: &mut String, alloc: Global, kept: &Kept) -> Result<(), AllocError>
+    ensures { OnOk result (string_bytes text.new ≡ string_bytes text.old ++ outcomes.wait_text kept.now.end kept.now.node) }
 {
-    match waited {
-        Waited::Still => sentence(
-            alloc,
-            &[
-                words("did not come: it waits for a route still; "),
-                words(loose),
-            ],
-        ),
-        Waited::Aged { event, seconds } => aged(alloc, *event, *seconds, loose),
-        Waited::Restarted { event } => until(alloc, who, " restarted", *event, loose),
-        Waited::Left { event } => until(alloc, who, " left", *event, loose),
-        Waited::Halted { event } => until(alloc, who, " lost power", *event, loose),
+    match kept.end {
+        KeptEnd::Still => text.push_str("did not come: it waits for a route still; "),
+        KeptEnd::Aged { event, seconds } => push_aged(text, alloc, event, seconds),
+        KeptEnd::Restarted { event } => push_until(text, alloc, kept.node, " restarted", event),
+        KeptEnd::Left { event } => push_until(text, alloc, kept.node, " left", event),
+        KeptEnd::Halted { event } => push_until(text, alloc, kept.node, " lost power", event),
     }
 }
 
-// Whether a story has a session, which ends by age.
-fn has_session(kind: StoryKind) -> bool
-    ensures { result ≡ outcomes.has_session kind }
-{
-    match kind {
-        StoryKind::Joining => true,
-        StoryKind::Renewal => true,
-        _ => false,
-    }
-}
-
-fn push_session_end(text: &mut String, alloc: Global, event: usize) -> Result<(), AllocError>
-    ensures { OnOk result (string_bytes text.new ≡ string_bytes text.old ++ outcomes.session_end_text event) }
+fn push_piece_until(
+    text: &mut String,
+    alloc: Global,
+    kept: &Kept,
+    what: &'static str,
+    event: usize,
+) -> Result<(), AllocError>
+    ensures { OnOk result (string_bytes text.new ≡ string_bytes text.old ++ outcomes.piece_until kept.now what.now event) }
 {
     push_parts(
         text,
         alloc,
         &[
-            words(" until the session ended by age (event "),
+            node(kept.node),
+            words(what),
+            words(" (event "),
             number(event),
+            words("), and a piece that it had gathered ended (flight "),
+            number(kept.flight as usize),
+            words(", event "),
+            number(kept.event),
             words(")"),
         ],
     )
 }
 
-fn push_session(text: &mut String, alloc: Global, event: usize) -> Result<(), AllocError>
-    ensures { OnOk result (string_bytes text.new ≡ string_bytes text.old ++ outcomes.session_text event) }
-{
-    if event == 0 {
-        return Ok(());
-    }
-    push_session_end(text, alloc, event)
-}
-
-fn push_gathered(
+fn push_piece_aged(
     text: &mut String,
     alloc: Global,
-    first: usize,
-    aged: usize,
+    kept: &Kept,
+    event: usize,
+    seconds: u64,
 ) -> Result<(), AllocError>
-    ensures { OnOk result (string_bytes text.new ≡ string_bytes text.old ++ outcomes.gathered_by first aged) }
+    ensures { OnOk result (string_bytes text.new ≡ string_bytes text.old ++ outcomes.piece_aged kept.now event seconds) }
 {
-    if aged == 0 {
-        return Ok(());
-    }
     push_parts(
         text,
         alloc,
         &[
-            words(": the first at event "),
-            number(first),
-            words(", and what was gathered ended at event "),
-            number(aged),
+            words("a piece that "),
+            node(kept.node),
+            words(" had gathered ended after "),
+            number(seconds as usize),
+            words(" s (event "),
+            number(event),
+            words(", taken at event "),
+            number(kept.event),
+            words(")"),
         ],
     )
 }
 
-// A datagram of which a node holds a piece, or does not, and what became of its flight.
-fn ended_by(alloc: Global, held: &str, fate: &str) -> Result<String, AllocError>
-    ensures { IfOk result (λ text. string_bytes text ≡ outcomes.ended_by held.now fate.now) }
+// How a piece ended that a node had gathered.
+#[tactic(auto, unfolding(crate::specs::Outcomes::piece_text))]
+fn push_piece(text: &mut String, alloc: Global, kept: &Kept) -> Result<(), AllocError>
+    ensures { OnOk result (string_bytes text.new ≡ string_bytes text.old ++ outcomes.piece_text kept.now.end kept.now) }
 {
-    sentence(alloc, &[words("did not come: "), words(held), words(fate)])
+    match kept.end {
+        KeptEnd::Still => Ok(()),
+        KeptEnd::Aged { event, seconds } => push_piece_aged(text, alloc, kept, event, seconds),
+        KeptEnd::Restarted { event } => push_piece_until(text, alloc, kept, " restarted", event),
+        KeptEnd::Left { event } => push_piece_until(text, alloc, kept, " left", event),
+        KeptEnd::Halted { event } => push_piece_until(text, alloc, kept, " lost power", event),
+    }
+}
+
+fn gathered_words(gathers: &Option<Kept>) -> &'static str
+    ensures { result.now ≡ outcomes.gathered_words gathers.now }
+{
+    match gathers {
+        None => "",
+        Some(_) => "a piece is missing: ",
+    }
+}
+
+// What is said of gathered pieces before a flight that did not go on.
+#[tactic(auto, unfolding(crate::specs::Outcomes::before_text))]
+fn push_before(
+    text: &mut String,
+    alloc: Global,
+    ended: &Option<Kept>,
+    gathers: &Option<Kept>,
+) -> Result<(), AllocError>
+    ensures { OnOk result (string_bytes text.new ≡ string_bytes text.old ++ outcomes.before_text ended.now gathers.now) }
+{
+    match ended {
+        None => text.push_str(gathered_words(gathers)),
+        Some(kept) => {
+            push_piece(text, alloc, kept)?;
+            text.push_str("; ")
+        }
+    }
+}
+
+fn push_rest_at(text: &mut String, alloc: Global, kept: &Kept) -> Result<(), AllocError>
+    ensures { OnOk result (string_bytes text.new ≡ string_bytes text.old ++ outcomes.rest_at kept.now) }
+{
+    push_parts(
+        text,
+        alloc,
+        &[
+            words("the rest is gathered at "),
+            node(kept.node),
+            words(" (event "),
+            number(kept.event),
+            words(")"),
+        ],
+    )
+}
+
+#[tactic(auto, unfolding(crate::specs::Outcomes::rest_text))]
+fn push_rest(
+    text: &mut String,
+    alloc: Global,
+    before: &'static str,
+    gathers: &Option<Kept>,
+) -> Result<(), AllocError>
+    ensures { OnOk result (string_bytes text.new ≡ string_bytes text.old ++ outcomes.rest_text before.now gathers.now) }
+{
+    match gathers {
+        None => Ok(()),
+        Some(kept) => {
+            text.push_str(before)?;
+            push_rest_at(text, alloc, kept)
+        }
+    }
 }
 
 impl<'a> Account<'a> {
-    fn is_held(&self, event: usize) -> bool
-        ensures { result ≡ outcomes.held_at self.now event }
+    fn push_fate(&self, text: &mut String, flight: usize) -> Result<(), AllocError>
+        ensures { OnOk result (string_bytes text.new ≡ string_bytes text.old ++ fate_text self.now flight) }
     {
-        match self.event(event) {
-            Some(told) => is_piece_held(told.answer),
-            None => false,
-        }
+        let fate = self.fate_text(flight)?;
+        text.push_str(fate.as_str())
     }
 
-    fn first_held(&self, events: &[usize]) -> usize
-        ensures { result ≡ outcomes.first_held self.now events.now }
+    fn push_loose(&self, text: &mut String, number: usize) -> Result<(), AllocError>
+        ensures { OnOk result (string_bytes text.new ≡ string_bytes text.old ++ loose_text self.now number) }
     {
-        for event in events {
-            if self.is_held(*event) {
-                return *event;
-            }
-        }
-        0
-    }
-
-    // The first event of a story at which a node holds a piece of its datagram, 0 where there is none.
-    fn first_piece(&self, story: usize) -> usize
-        ensures { result ≡ outcomes.first_piece self.now story }
-    {
-        self.first_held(self.index.events(story))
-    }
-
-    // Whether a node holds a piece of the datagram of a story.
-    fn has_held(&self, story: usize) -> bool
-        ensures { result ≡ outcomes.has_held self.now story }
-    {
-        self.first_piece(story) != 0
+        let loose = self.loose_text(number)?;
+        text.push_str(loose.as_str())
     }
 
     #[tactic(auto, unfolding(crate::specs::Outcomes::ended_text))]
-    fn ended_text(&self, story: usize, flight: usize) -> Result<String, AllocError>
-        ensures { IfOk result (λ text. string_bytes text ≡ outcomes.ended_text self.now story flight) }
+    fn ended_text(&self, story: &Story, number: usize, flight: usize) -> Result<String, AllocError>
+        ensures { IfOk result (λ text. string_bytes text ≡ outcomes.ended_text self.now story.now number flight) }
     {
-        let fate = self.fate_text(flight)?;
-        let more = self.index.broken(story).len().saturating_sub(1);
-        let held = piece_words(self.has_held(story));
-        let mut text = ended_by(self.alloc, held, fate.as_str())?;
+        let mut text = String::new(self.alloc);
+        text.push_str("did not come: ")?;
+        push_before(&mut text, self.alloc, &story.ended, &story.gathers)?;
+        self.push_fate(&mut text, flight)?;
+        let more = self.index.broken(number).len().saturating_sub(1);
         push_more(&mut text, self.alloc, more)?;
         Ok(text)
     }
@@ -324,7 +364,7 @@ impl<'a> Account<'a> {
     fn hops_of(&self, told: &TaleEvent) -> u8
         ensures { result ≡ outcomes.hops_of self.now told.now }
     {
-        hops_by(self.flight(flight_heard(&told.act)))
+        hops_by(self.flight(delivered(&told.act)))
     }
 
     #[tactic(auto, unfolding(crate::specs::Outcomes::came_at_text))]
@@ -373,61 +413,58 @@ impl<'a> Account<'a> {
         }
     }
 
-    // Whether the last flight of a story went on.
-    fn is_last_taken(&self, story: usize) -> bool
-        ensures { result ≡ outcomes.is_last_taken self.now story }
-    {
-        match self.lot(self.ends_of(story).last) {
-            Some(lot) => went_on(&lot.fate),
-            None => false,
-        }
-    }
-
-    // The event at which a session ended by age after whose last flight nothing followed, 0 where it did not.
-    fn session_end(&self, kind: StoryKind, story: usize) -> usize
-        ensures { result ≡ outcomes.session_end self.now kind story }
-    {
-        if has_session(kind) && self.is_last_taken(story) {
-            return self.aged_after(self.first_of(story), SESSION_TIME);
-        }
-        0
-    }
-
-    #[tactic(auto, unfolding(crate::specs::Outcomes::failed_text))]
     fn failed_text(&self, kind: StoryKind, story: usize) -> Result<String, AllocError>
         ensures { IfOk result (λ text. string_bytes text ≡ outcomes.failed_text self.now kind story) }
     {
         let loose = self.loose_text(story)?;
-        let mut text = two_words(self.alloc, failed_words(kind), loose.as_str())?;
-        push_session(&mut text, self.alloc, self.session_end(kind, story))?;
-        Ok(text)
+        two_words(self.alloc, failed_words(kind), loose.as_str())
     }
 
-    // A datagram whose pieces were all taken and did not make it whole, by the first of them.
-    #[tactic(auto, unfolding(crate::specs::Outcomes::gathered_text))]
-    fn gathered_text(&self, first: usize) -> Result<String, AllocError>
-        ensures { IfOk result (λ text. string_bytes text ≡ outcomes.gathered_text self.now first) }
+    fn push_ungathered(
+        &self,
+        text: &mut String,
+        gathers: &Option<Kept>,
+        number: usize,
+    ) -> Result<(), AllocError>
+        ensures { OnOk result (string_bytes text.new ≡ string_bytes text.old ++ outcomes.pieces_by None gathers.now self.now number) }
     {
-        let mut text = sentence(
-            self.alloc,
-            &[
-                words("did not come: its pieces were taken one by one, but never all within "),
-                number(REASSEMBLY_TIME as usize),
-                words(" s"),
-            ],
-        )?;
-        let aged = self.aged_after(first, REASSEMBLY_TIME);
-        push_gathered(&mut text, self.alloc, first, aged)?;
-        Ok(text)
-    }
-
-    fn loose_verdict_text(&self, kind: StoryKind, story: usize) -> Result<String, AllocError>
-        ensures { IfOk result (λ text. string_bytes text ≡ outcomes.loose_verdict_text self.now kind story) }
-    {
-        if is_datagram(kind) && self.has_held(story) {
-            return self.gathered_text(self.first_piece(story));
+        match gathers {
+            None => self.push_loose(text, number),
+            Some(kept) => push_rest_at(text, self.alloc, kept),
         }
-        self.failed_text(kind, story)
+    }
+
+    fn push_pieces(&self, text: &mut String, story: &Story, number: usize) -> Result<(), AllocError>
+        ensures { OnOk result (string_bytes text.new
+            ≡ string_bytes text.old ++ outcomes.pieces_by story.now.ended story.now.gathers self.now number) }
+    {
+        match &story.ended {
+            None => self.push_ungathered(text, &story.gathers, number),
+            Some(kept) => {
+                push_piece(text, self.alloc, kept)?;
+                push_rest(text, self.alloc, "; ", &story.gathers)
+            }
+        }
+    }
+
+    // A datagram of which each flight went on.
+    #[tactic(auto, unfolding(crate::specs::Outcomes::pieces_text))]
+    fn pieces_text(&self, story: &Story, number: usize) -> Result<String, AllocError>
+        ensures { IfOk result (λ text. string_bytes text ≡ outcomes.pieces_text self.now story.now number) }
+    {
+        let mut text = String::new(self.alloc);
+        text.push_str("did not come: ")?;
+        self.push_pieces(&mut text, story, number)?;
+        Ok(text)
+    }
+
+    fn loose_verdict_text(&self, story: &Story, number: usize) -> Result<String, AllocError>
+        ensures { IfOk result (λ text. string_bytes text ≡ outcomes.loose_verdict_text self.now story.now number) }
+    {
+        if is_datagram(story.kind) {
+            return self.pieces_text(story, number);
+        }
+        self.failed_text(story.kind, number)
     }
 
     // A story whose first event was refused.
@@ -442,17 +479,23 @@ impl<'a> Account<'a> {
         two_words(self.alloc, not_begun_words(story.kind), bare(why))
     }
 
-    fn left_text(&self, story: &Story, number: usize) -> Result<String, AllocError>
-        ensures { IfOk result (λ text. string_bytes text ≡ outcomes.never_left_text
-            (outcomes.waited_of self.now story.now) story.now.person (outcomes.loose_text self.now number)) }
+    fn waited_text(&self, story: &Story, kept: &Kept) -> Result<String, AllocError>
+        ensures { IfOk result (λ text. string_bytes text ≡ outcomes.never_left_by (Some kept.now) self.now story.now) }
     {
-        let loose = self.loose_text(number)?;
-        never_left(
-            self.alloc,
-            &self.waited(story),
-            story.person,
-            loose.as_str(),
-        )
+        let mut text = String::new(self.alloc);
+        push_wait(&mut text, self.alloc, kept)?;
+        self.push_cause(&mut text, story, kept)?;
+        Ok(text)
+    }
+
+    // A datagram that no flight carries.
+    fn left_text(&self, story: &Story) -> Result<String, AllocError>
+        ensures { IfOk result (λ text. string_bytes text ≡ outcomes.never_left_text self.now story.now) }
+    {
+        match &story.waits {
+            None => String::from_str(self.alloc, "did not come: nothing went out"),
+            Some(kept) => self.waited_text(story, kept),
+        }
     }
 
     #[tactic(auto, unfolding(crate::specs::Outcomes::took_text))]
@@ -513,11 +556,11 @@ impl<'a> Account<'a> {
             Verdict::Nothing => Ok(String::new(self.alloc)),
             Verdict::NotBegun => self.not_begun_text(story),
             Verdict::Reached { event } => self.reached_text(story, *event),
-            Verdict::NeverLeft { .. } => self.left_text(story, number),
-            Verdict::Ended { flight } => self.ended_text(number, *flight),
+            Verdict::NeverLeft { .. } => self.left_text(story),
+            Verdict::Ended { flight } => self.ended_text(story, number, *flight),
             Verdict::Declined { event } => self.declined_text(*event),
             Verdict::TookOnly { event, .. } => self.took_text(story, number, *event),
-            Verdict::Loose { .. } => self.loose_verdict_text(story.kind, number),
+            Verdict::Loose { .. } => self.loose_verdict_text(story, number),
             Verdict::NotTold => String::from_str(self.alloc, self.why(story.first)),
             Verdict::Stopped => self.stopped_text(story.first),
             Verdict::Taken => self.octets_taken_text(story.first),

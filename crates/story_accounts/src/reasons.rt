@@ -3,13 +3,15 @@ ghost use Rattle.std.specs.Prelude.{◌≡◌, ◌++◌, ◌-◌, IfOk, OnOk, st
 ghost use Rattle.story_accounts.specs.Sections as sections;
 
 use crate::account::Account;
-use crate::fates::{is_mute, is_to_all, two_words};
+use crate::fates::{is_to_all, two_words};
 use crate::groups::{Group, join, largest_first};
+use crate::searches::Reach;
+use crate::waiting::{has_taken, until_of};
 use frame_words::FrameTarget;
 use itoa::Buffer;
 use line_events::Answer;
 use line_script::answer_word;
-use line_tale::{Fate, Verdict, is_good};
+use line_tale::{Fate, Kept, Story, Verdict, is_good};
 use sentence_parts::decimal_width;
 use std::alloc::AllocError;
 
@@ -50,13 +52,29 @@ fn missed_reason(to_all: bool, words: &'static str) -> &'static str
     words
 }
 
-fn waited_words(waited: bool) -> &'static str
-    ensures { result.now ≡ sections.waited_words waited }
+// Why a search for a route gave none, in a few words.
+fn reach_reason(reach: &Reach) -> &'static str
+    ensures { result.now ≡ sections.reach_reason reach.now }
 {
-    if waited {
-        return "waited for a route: ";
+    if reach.answered() > 0 {
+        return "waited for a route: the reply did not come";
     }
-    ""
+    if has_taken(reach.states()) {
+        return "waited for a route: no node that the request reached answered it";
+    }
+    if reach.refusals().is_empty() {
+        return "waited for a route: the route request reached no node";
+    }
+    "waited for a route: all that heard the request refused it"
+}
+
+fn piece_reason(ended: &Option<Kept>, rest: &'static str) -> &'static str
+    ensures { result.now ≡ sections.piece_reason ended.now rest.now }
+{
+    match ended {
+        None => rest,
+        Some(_) => "a piece that was gathered ended",
+    }
 }
 
 /// Adds a number to a list, if something holds.
@@ -166,29 +184,57 @@ impl<'a> Account<'a> {
         self.fate_reason(&lot.fate, &told.target)
     }
 
-    fn is_unheard(&self, flight: usize) -> bool
-        ensures { result ≡ sections.unheard_at self.now flight }
+    fn request_reason(&self, request: usize, until: usize) -> Result<&'static str, AllocError>
+        ensures { IfOk result (λ words. words.now ≡ sections.request_reason self.now request until) }
     {
-        match self.lot(flight) {
-            Some(lot) => is_mute(&lot.fate),
-            None => false,
+        if request == 0 {
+            return Ok("nothing went out");
+        }
+        let reach = self.reach_of(request, until)?;
+        Ok(reach_reason(&reach))
+    }
+
+    fn kept_reason(&self, story: &Story, kept: &Kept) -> Result<&'static str, AllocError>
+        ensures { IfOk result (λ words. words.now ≡ sections.kept_reason self.now story.now kept.now) }
+    {
+        let Some(told) = self.event(kept.event) else {
+            return Ok("nothing went out");
+        };
+        let until = until_of(&kept.end, self.tale.events.len());
+        self.request_reason(self.request_of(story, kept, &told), until)
+    }
+
+    fn loose_reason(&self, story: &Story, last: usize) -> Result<&'static str, AllocError>
+        ensures { IfOk result (λ words. words.now ≡ sections.loose_reason story.now.waits self.now story.now last) }
+    {
+        match &story.waits {
+            None => Ok(self.flight_reason(last)),
+            Some(kept) => self.kept_reason(story, kept),
         }
     }
 
-    fn verdict_reason(&self, verdict: &Verdict, first: usize) -> Result<String, AllocError>
-        ensures { IfOk result (λ text. string_bytes text ≡ sections.verdict_reason verdict.now self.now first) }
+    fn verdict_reason(&self, verdict: &Verdict, story: &Story) -> Result<String, AllocError>
+        ensures { IfOk result (λ text. string_bytes text ≡ sections.verdict_reason verdict.now self.now story.now) }
     {
         match verdict {
-            Verdict::NotBegun => two_words(self.alloc, "refused at once: ", self.answer_at(first)),
-            Verdict::NeverLeft { last } => two_words(
+            Verdict::NotBegun => two_words(
                 self.alloc,
-                waited_words(self.is_unheard(*last)),
-                self.flight_reason(*last),
+                "refused at once: ",
+                self.answer_at(story.first),
             ),
-            Verdict::Ended { flight } => String::from_str(self.alloc, self.flight_reason(*flight)),
-            Verdict::Loose { last } => String::from_str(self.alloc, self.flight_reason(*last)),
+            Verdict::NeverLeft { last } => {
+                String::from_str(self.alloc, self.loose_reason(story, *last)?)
+            }
+            Verdict::Ended { flight } => {
+                let rest = self.flight_reason(*flight);
+                String::from_str(self.alloc, piece_reason(&story.ended, rest))
+            }
+            Verdict::Loose { last } => {
+                let rest = self.loose_reason(story, *last)?;
+                String::from_str(self.alloc, piece_reason(&story.ended, rest))
+            }
             Verdict::TookOnly { last, .. } => {
-                String::from_str(self.alloc, self.flight_reason(*last))
+                String::from_str(self.alloc, self.loose_reason(story, *last)?)
             }
             Verdict::Declined { .. } => String::from_str(self.alloc, "the meter was not allowed"),
             _ => String::from_str(self.alloc, "FORGED"),
@@ -196,10 +242,13 @@ impl<'a> Account<'a> {
     }
 
     #[tactic(auto, unfolding(crate::specs::Sections::reason))]
-    fn reason(&self, story: usize) -> Result<String, AllocError>
-        ensures { IfOk result (λ text. string_bytes text ≡ sections.reason self.now story) }
+    fn reason(&self, number: usize) -> Result<String, AllocError>
+        ensures { IfOk result (λ text. string_bytes text ≡ sections.reason self.now number) }
     {
-        self.verdict_reason(&self.verdict(story), self.first_of(story))
+        match self.story(number) {
+            None => Ok(String::new(self.alloc)),
+            Some(story) => self.verdict_reason(&self.verdict(number), &story),
+        }
     }
 
     // The reason of a story that failed is said once more.

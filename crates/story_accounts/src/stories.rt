@@ -1,9 +1,10 @@
 //! The text of a story, and of a section of stories.
-ghost use Rattle.std.specs.Prelude.{◌≡◌, ◌++◌, IfOk, OnOk, string_bytes};
+ghost use Rattle.std.specs.Prelude.{◌≡◌, ◌<◌, ◌++◌, IfOk, IfSome, OnOk, length, position, string_bytes};
 ghost use Rattle.story_accounts.specs.Sections as sections;
 
 use crate::account::Account;
 use crate::groups::Group;
+use crate::numbers::numbered;
 use crate::reasons::{is_for_another, push_if};
 use crate::section::{
     Chosen, Section, good_word, is_brief, is_broadcasts, section_kind, section_title,
@@ -11,7 +12,7 @@ use crate::section::{
 use crate::titles::push_capital;
 use line_events::Answer;
 use line_script::answer_word;
-use line_tale::{Story, TaleEvent};
+use line_tale::{Lot, Story, StoryKind, TaleEvent, made_by};
 use sentence_parts::{number, push_parts, sentence, words};
 use std::alloc::{AllocError, Global};
 
@@ -116,6 +117,58 @@ fn push_event_by(
     )
 }
 
+fn left_words(kind: StoryKind) -> &'static str
+    ensures { result.now ≡ sections.left_words kind }
+{
+    match kind {
+        StoryKind::Datagram => "the datagram left as flight ",
+        _ => "the message left as flight ",
+    }
+}
+
+fn is_owner(owner: Option<usize>, number: usize) -> bool
+    ensures { result ≡ sections.is_owner owner number }
+{
+    match owner {
+        None => false,
+        Some(owner) => owner == number,
+    }
+}
+
+// The place of the first flight of a story among some.
+fn first_of_story(lots: &[Lot], number: usize) -> Option<usize>
+    ensures value { result ≡ position (sections.is_of number) lots.now }
+    ensures bound { IfSome result (λ p. p < length lots.now) }
+{
+    lots.iter().position(|lot| lot.story == number)
+}
+
+fn push_left_by(
+    text: &mut String,
+    alloc: Global,
+    event: usize,
+    line: u32,
+    what: &'static str,
+    flight: usize,
+) -> Result<(), AllocError>
+    ensures { OnOk result (string_bytes text.new ≡ string_bytes text.old ++ sections.left_by event line what.now flight) }
+{
+    push_parts(
+        text,
+        alloc,
+        &[
+            words("      event "),
+            number(event),
+            words(", line "),
+            number(line as usize),
+            words(": "),
+            words(what),
+            number(flight),
+            words(".\n"),
+        ],
+    )
+}
+
 impl<'a> Account<'a> {
     fn is_chosen(&self, chosen: Chosen, number: usize, story: &Story) -> bool
         ensures { result ≡ sections.is_chosen chosen self.now number story.now }
@@ -188,11 +241,67 @@ impl<'a> Account<'a> {
         self.push_event_line(text, event, &told)
     }
 
-    fn push_events(&self, text: &mut String, events: &[usize]) -> Result<(), AllocError>
-        ensures { OnOk result (string_bytes text.new ≡ string_bytes text.old ++ sections.events_text self.now events.now) }
+    // What left of a story at an event of another one.
+    fn push_left(
+        &self,
+        text: &mut String,
+        event: usize,
+        told: &TaleEvent,
+        number: usize,
+        story: &Story,
+    ) -> Result<(), AllocError>
+        ensures { OnOk result (string_bytes text.new
+            ≡ string_bytes text.old ++ sections.left_text self.now event told.now number story.now) }
+    {
+        let made = made_by(told, self.lots);
+        match first_of_story(made, number) {
+            None => Ok(()),
+            Some(place) => {
+                let flight = told.first_flight as usize + place;
+                push_left_by(
+                    text,
+                    self.alloc,
+                    event,
+                    told.line,
+                    left_words(story.kind),
+                    flight,
+                )
+            }
+        }
+    }
+
+    // An event of a story, or of another one at which a flight of the story went out.
+    fn push_story_event(
+        &self,
+        text: &mut String,
+        event: usize,
+        number: usize,
+        story: &Story,
+    ) -> Result<(), AllocError>
+        ensures { OnOk result (string_bytes text.new
+            ≡ string_bytes text.old ++ sections.story_event self.now event number story.now) }
+    {
+        if is_owner(numbered(self.owners, event), number) {
+            return self.push_event(text, event);
+        }
+        match self.event(event) {
+            None => Ok(()),
+            Some(told) => self.push_left(text, event, &told, number, story),
+        }
+    }
+
+    fn push_events(
+        &self,
+        text: &mut String,
+        events: &[usize],
+        number: usize,
+        story: &Story,
+    ) -> Result<(), AllocError>
+        ensures { OnOk result (string_bytes text.new
+            ≡ string_bytes text.old ++ sections.events_text self.now events.now number story.now) }
     {
         for event in events {
-            self.push_event(text, *event)?;
+            self.push_story_event(text, *event, number, story)?;
         }
         Ok(())
     }
@@ -228,7 +337,7 @@ impl<'a> Account<'a> {
         if !whole {
             return Ok(());
         }
-        self.push_events(text, self.index.events(number))
+        self.push_events(text, self.index.events(number), number, story)
     }
 
     fn is_left_out(&self, chosen: Chosen, count: usize, number: usize) -> bool

@@ -116,7 +116,7 @@ fn title_by(alloc: Global, act: &Act, send: usize) -> Result<String, AllocError>
             " is ordered to seal with key ",
             *index as usize,
         ),
-        Act::Kick { node } => with_node(alloc, "", *node, " is shut out"),
+        Act::Kick { node } => with_node(alloc, "", *node, " is to be shut out"),
         Act::Inject { node, .. } => with_node(alloc, "injected octets come to ", *node, ""),
         Act::Bcast { node, octets } => broadcast_title(alloc, *node, *octets),
         Act::Path { from, to } => two_nodes(alloc, *from, " asks for the way to ", *to),

@@ -12,6 +12,7 @@ fn lot(to: Option<u32>, fate: Fate) -> Lot {
         fate,
         bears: false,
         overheard: false,
+        search: 0,
     }
 }
 

@@ -1,7 +1,9 @@
 use frame_words::{FrameTarget, Gist, PayloadKind};
 use line_events::Answer;
 use line_stories::{Telling, stories_of};
-use line_tale::{Act, Fate, StoryKind, Tale, TaleEvent, TaleFlight, Verdict, ends_of, verdict_of};
+use line_tale::{
+    Act, Fate, StoryKind, Tale, TaleEvent, TaleFlight, Verdict, ends_of, flight_come, verdict_of,
+};
 use plc_base::Eui;
 use std::alloc::{AllocError, Global};
 use std::test::Fail;
@@ -13,6 +15,7 @@ pub fn event(clock: u64, act: Act, answer: Answer, first_flight: u32, flights: u
     TaleEvent {
         line: 1,
         act,
+        came: flight_come(&act, 0),
         answer,
         forged: false,
         clock,
@@ -35,6 +38,7 @@ fn up(clock: u64, flight: u32, note: u32, first_flight: u32) -> TaleEvent {
     TaleEvent {
         line: 1,
         act,
+        came: flight,
         answer: Answer::Up,
         forged: false,
         clock,

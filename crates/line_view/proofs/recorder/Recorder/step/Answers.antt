@@ -10,6 +10,7 @@ returns c =
       events = c.self.inside.tale.events.items;
       flights = c.self.inside.tale.flights.items;
       more = c.self.inside.more.items;
+      counters = c.self.inside.counters;
       euis = c.self.inside.euis.items;
     } in
     rw (← c.self.view_is) (event_kept c.args.row c.counts-counts.result.flights r c.record.new.self c.step.new.self c.args.event.now c.in-Ok.happenings

@@ -9,7 +9,7 @@ use Rattle.story_accounts.proofs.account.Account.push_hearer.Goals as goal
 pub returns : goal.returns
 unfolding hearer_text
 returns c =
-    let who = c.node.ensures ∙ ap Node c.hearer.ensures in
+    let who = c.node.ensures ∙ ap Node c.actor_of.ensures in
     let word = c.words-2.ensures ∙ ap Words c.answer_word.ensures in
     appends c.push_parts.result (string_bytes c.args.text.now) (string_bytes c.push_parts.new.text)
     ((λ i. parts_text

@@ -1,5 +1,5 @@
 use Rattle.std.proofs.Common.{◌≡◌, drop}
-use Rattle.story_accounts.specs.Outcomes.{request_in}
+use Rattle.story_accounts.specs.Waits.{request_in}
 use Rattle.story_accounts.proofs.account.Account.request_in.Given as goal
 
 -- what the requests to come say

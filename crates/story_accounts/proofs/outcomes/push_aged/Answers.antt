@@ -1,0 +1,13 @@
+use Rattle.std.proofs.Common.{[], ◌∷◌, string_bytes}
+use Rattle.sentence_parts.specs.Parts.{parts_text}
+use Rattle.story_accounts.specs.Outcomes.{aged_text}
+use Rattle.story_accounts.proofs.Saying.{appends}
+use Rattle.story_accounts.proofs.outcomes.push_aged.Goals as goal
+
+pub returns : goal.returns
+unfolding aged_text
+returns c =
+    appends c.push_parts.result (string_bytes c.args.text.now) (string_bytes c.push_parts.new.text)
+    (λ i. parts_text
+    (c.words.ensures i ∷ c.number.ensures i ∷ c.words-2.ensures i ∷ c.number-2.ensures i ∷ c.words-3.ensures i ∷ []))
+    c.push_parts.ensures

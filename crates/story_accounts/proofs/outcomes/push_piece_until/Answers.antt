@@ -1,0 +1,14 @@
+use Rattle.std.proofs.Common.{[], ◌∷◌, string_bytes}
+use Rattle.sentence_parts.specs.Parts.{parts_text}
+use Rattle.story_accounts.specs.Outcomes.{piece_until}
+use Rattle.story_accounts.proofs.Saying.{appends}
+use Rattle.story_accounts.proofs.outcomes.push_piece_until.Goals as goal
+
+pub returns : goal.returns
+unfolding piece_until
+returns c =
+    appends c.push_parts.result (string_bytes c.args.text.now) (string_bytes c.push_parts.new.text)
+    (λ i. parts_text
+    (c.node.ensures i ∷ c.words.ensures i ∷ c.words-2.ensures i ∷ c.number.ensures i ∷ c.words-3.ensures i ∷ c.number-2.ensures i
+    ∷ c.words-4.ensures i ∷ c.number-3.ensures i ∷ c.words-5.ensures i ∷ []))
+    c.push_parts.ensures
