@@ -1,17 +1,17 @@
 -- What of a run helps to say why it does not take an event.
-use Rattle.std.specs.Prelude.{ℕ, ◌+◌, ◌-◌, ◌==◌, ◌&&◌, ◌||◌, Bool, true, false, not, List, [], ◌∷◌, Option, None, Some, if◌then◌else◌, nat_le}
+use Rattle.std.specs.Prelude.{ℕ, ◌+◌, ◌-◌, ◌==◌, ◌&&◌, ◌||◌, Bool, true, false, List, [], ◌∷◌, Option, None, Some, if◌then◌else◌, nat_le}
 use Rattle.std.specs.Prelude.{nat_lt, position, slice_get}
 use Rattle.std.specs.List.{count_by}
 use Rattle.std.specs.Str.{bytes_eq}
 use Rattle.plc_base.specs.declared.address.Eui.{Eui}
 use Rattle.line_events.specs.declared.event.Answer.{Answer}
 use Rattle.line_events.specs.declared.event.Answer.TheVariants as answers
-use Rattle.line_events.specs.Answers.{is_ok}
 use Rattle.line_events.specs.declared.event.Event.{Event}
 use Rattle.line_events.specs.declared.event.Event.TheVariants as events
 use Rattle.line_tale.specs.declared.act.Act.{Act}
 use Rattle.line_tale.specs.declared.act.Act.TheVariants as acts
 use Rattle.line_tale.specs.declared.told.TaleEvent.{TaleEvent}
+use Rattle.line_tale.specs.Kinds.{is_refused}
 use Rattle.event_faults.specs.declared.run.Made.{Made}
 use Rattle.event_faults.specs.declared.run.Named.{Named}
 use Rattle.event_faults.specs.declared.run.Place.{Place}
@@ -120,18 +120,10 @@ neighbours es node = count_by (λ (e : TaleEvent). is_neighbour node e.act) es
 abbrev pub sent_it : ℕ → TaleEvent → Bool
 sent_it flight e = nat_le e.first_flight flight && nat_lt (flight - e.first_flight) e.flights
 
-abbrev pub is_not_for_me : Answer → Bool
-is_not_for_me answers.NotForMe = true
-is_not_for_me _ = false
-
--- whether an event was refused, other than by a node that it was not for
-abbrev pub is_refusal : TaleEvent → Bool
-is_refusal e = if is_not_for_me e.answer then false else not (is_ok e.answer)
-
 -- the number of the last refusal, from 1, after those before this place; 0 where there is none
 abbrev pub refusal_from : ℕ → ℕ → List TaleEvent → ℕ
 refusal_from at last [] = last
-refusal_from at last (e ∷ es) = refusal_from (at + 1) (if is_refusal e then at + 1 else last) es
+refusal_from at last (e ∷ es) = refusal_from (at + 1) (if is_refused e.answer then at + 1 else last) es
 
 unfoldable pub last_refusal : List TaleEvent → ℕ
 last_refusal es = refusal_from 0 0 es

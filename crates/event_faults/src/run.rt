@@ -4,7 +4,7 @@ ghost use Rattle.line_events.specs.declared.event.Answer.{Answer};
 ghost use Rattle.event_faults.specs.Runs as runs;
 
 use line_events::{Answer, Event};
-use line_tale::{Act, TaleEvent};
+use line_tale::{Act, TaleEvent, is_refused};
 use plc_base::Eui;
 use std::alloc::{AllocError, Global};
 use std::marker::Model;
@@ -297,24 +297,6 @@ pub fn sending_of(events: &[TaleEvent], flight: u32) -> Option<usize>
     events.iter().position(|event| sent_it(flight, event))
 }
 
-fn is_not_for_me(answer: Answer) -> bool
-    ensures { result ≡ runs.is_not_for_me answer }
-{
-    match answer {
-        Answer::NotForMe => true,
-        _ => false,
-    }
-}
-
-fn is_refusal(event: &TaleEvent) -> bool
-    ensures { result ≡ runs.is_refusal event.now }
-{
-    if is_not_for_me(event.answer) {
-        return false;
-    }
-    !event.answer.is_ok()
-}
-
 fn later(is: bool, number: usize, last: usize) -> usize
     ensures { result ≡ (if is then number else last) }
 {
@@ -329,7 +311,7 @@ pub fn last_refusal(events: &[TaleEvent]) -> usize
     let mut last = 0;
     let mut at = 0;
     for event in events {
-        last = later(is_refusal(event), at + 1, last);
+        last = later(is_refused(event.answer), at + 1, last);
         at = at + 1;
     }
     last

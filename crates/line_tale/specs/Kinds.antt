@@ -1,7 +1,8 @@
 -- What events and answers are to a story.
-use Rattle.std.specs.Prelude.{ℕ, Bool, true, false, Option, None, Some}
+use Rattle.std.specs.Prelude.{ℕ, ◌&&◌, Bool, true, false, not, Option, None, Some}
 use Rattle.line_events.specs.declared.event.Answer.{Answer}
 use Rattle.line_events.specs.declared.event.Answer.TheVariants as answers
+use Rattle.line_events.specs.Answers.{is_ok}
 use Rattle.line_tale.specs.declared.act.Act.{Act}
 use Rattle.line_tale.specs.declared.act.Act.TheVariants as acts
 use Rattle.line_tale.specs.declared.kind.StoryKind.{StoryKind}
@@ -161,6 +162,15 @@ takes_counter _ = true
 abbrev pub is_piece_held : Answer → Bool
 is_piece_held answers.Held = true
 is_piece_held _ = false
+
+-- whether a frame came to a node that it is not for
+abbrev pub is_for_another : Answer → Bool
+is_for_another answers.NotForMe = true
+is_for_another _ = false
+
+-- whether something was refused, and not since its frame is for another node
+abbrev pub is_refused : Answer → Bool
+is_refused answer = not (is_ok answer) && not (is_for_another answer)
 
 abbrev pub is_declined : Answer → Bool
 is_declined answers.Declined = true

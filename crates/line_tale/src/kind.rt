@@ -254,6 +254,23 @@ pub fn takes_counter(answer: Answer) -> bool
     }
 }
 
+/// Whether a frame came to a node that it is not for, as most do.
+pub fn is_for_another(answer: Answer) -> bool
+    ensures { result ≡ story_kinds.is_for_another answer }
+{
+    match answer {
+        Answer::NotForMe => true,
+        _ => false,
+    }
+}
+
+/// Whether something was refused, and not since its frame is for another node; a forged frame too.
+pub fn is_refused(answer: Answer) -> bool
+    ensures { result ≡ story_kinds.is_refused answer }
+{
+    !answer.is_ok() && !is_for_another(answer)
+}
+
 /// Whether a meter was not let in.
 pub fn is_declined(answer: Answer) -> bool
     ensures { result ≡ story_kinds.is_declined answer }

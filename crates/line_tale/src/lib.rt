@@ -37,8 +37,9 @@ pub use kept::{
     Kept, KeptEnd, end_of, ended_so, is_kept_of, is_message, is_still, makes_message, may_end,
 };
 pub use kind::{
-    StoryKind, actor_of, begins, goes_on_with, is_line, is_piece_held, is_setup, is_setup_kind,
-    joins, keeps_joinings, makes_node, person_of, readies, sends, takes_counter,
+    StoryKind, actor_of, begins, goes_on_with, is_for_another, is_line, is_piece_held, is_refused,
+    is_setup, is_setup_kind, joins, keeps_joinings, makes_node, person_of, readies, sends,
+    takes_counter,
 };
 pub use lot::{Fate, Lot, change_lots};
 pub use story::{Story, came, left, marked, new_story, with_kept};

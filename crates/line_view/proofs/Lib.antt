@@ -1,3 +1,4 @@
+mod Told
 pub mod Checks
 pub mod Running
 pub mod Stepping

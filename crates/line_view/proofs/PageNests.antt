@@ -18,8 +18,8 @@ use Rattle.line_view.specs.declared.bad_line.BadLine.{BadLine}
 use Rattle.program_ends.specs.declared.status.Status.{Status}
 use Rattle.program_ends.specs.declared.status.Status.TheVariants as status
 use Rattle.program_ends.specs.Statuses.{status_of}
-use Rattle.line_view.specs.Paging.{Paging, chart_run, is_forged, nothing_paged, page_text, paged, rules, sheet_with}
-use Rattle.line_view.specs.RunMachines.{end_of, turn_by, turn_of}
+use Rattle.line_view.specs.Paging.{Paging, chart_run, finding, nothing_paged, page_text, paged, rules, sheet_with}
+use Rattle.line_view.specs.RunMachines.{end_of, found_status, turn_by, turn_of}
 use Rattle.line_view.specs.Tool.{Accounts, IsWhole}
 
 -- # A page
@@ -78,18 +78,18 @@ bad_from ahead (line ∷ ls) p ended stops =
 
 -- # What was written
 
-well_by : (source0 source1 : SourceState) (sink0 sink1 : SinkState) (last : Paging) (b w : List ℕ) (exit : Exit) (forged : Bool)
-    → Comes paged last source0 source1 sink0 sink1 b w exit → IsWhole (status_of exit forged status.Forged) → IsPage w
-well_by source0 source1 sink0 sink1 last b w exits.Fine forged comes whole = subst IsPage (sym comes.2) (fine_from (lines b true) nothing_paged)
-well_by source0 source1 sink0 sink1 last b w exits.BadScript forged comes whole =
+well_by : (source0 source1 : SourceState) (sink0 sink1 : SinkState) (last : Paging) (b w : List ℕ) (exit : Exit) (found : Status)
+    → Comes paged last source0 source1 sink0 sink1 b w exit → IsWhole (status_of exit true found) → IsPage w
+well_by source0 source1 sink0 sink1 last b w exits.Fine found comes whole = subst IsPage (sym comes.2) (fine_from (lines b true) nothing_paged)
+well_by source0 source1 sink0 sink1 last b w exits.BadScript found comes whole =
     subst IsPage (sym comes.1) (bad_from WINDOW (lines b source1.ended) nothing_paged source1.ended comes.0)
-well_by source0 source1 sink0 sink1 last b w exits.ReadFault forged comes whole = absurd whole
-well_by source0 source1 sink0 sink1 last b w exits.WriteFault forged comes whole = absurd whole
-well_by source0 source1 sink0 sink1 last b w exits.Memory forged comes whole = absurd whole
+well_by source0 source1 sink0 sink1 last b w exits.ReadFault found comes whole = absurd whole
+well_by source0 source1 sink0 sink1 last b w exits.WriteFault found comes whole = absurd whole
+well_by source0 source1 sink0 sink1 last b w exits.Memory found comes whole = absurd whole
 
 -- what is written whole is a page
 pub is_page : {source0 source1 : SourceState} {sink0 sink1 : SinkState} (result : Status)
-    (account : Accounts is_forged paged source0 source1 sink0 sink1 result) → IsWhole result → IsPage account.ran.drives.w
+    (account : Accounts finding paged source0 source1 sink0 sink1 result) → IsWhole result → IsPage account.drives.w
 is_page {source0} {source1} {sink0} {sink1} result account whole =
-    let ran = account.ran in
-    well_by source0 source1 sink0 sink1 ran.last ran.drives.b ran.drives.w ran.exit (is_forged ran.last) ran.drives.comes (subst IsWhole ran.status whole)
+    let a = account in
+    well_by source0 source1 sink0 sink1 a.last a.drives.b a.drives.w a.exit (found_status (finding a.last)) a.drives.comes (subst IsWhole a.status whole)

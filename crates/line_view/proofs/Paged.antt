@@ -10,14 +10,13 @@ use Rattle.line_events.specs.declared.event.Event.{Event}
 use Rattle.line_rules.specs.Worlds.{node_at}
 use Rattle.line_rules.specs.Runs.{Entry}
 use Rattle.line_script.specs.declared.report.Reason.{Reason}
-use Rattle.line_tale.specs.Kinds.{actor_of, makes_node}
+use Rattle.line_tale.specs.Kinds.{actor_of, is_for_another, makes_node}
 use Rattle.line_tale.specs.declared.act.Act.{Act}
 use Rattle.line_tale.specs.declared.told.TaleEvent.{TaleEvent}
 use Rattle.line_tale.specs.Tales.{numbered}
 use Rattle.run_pages.specs.Remarking.{with_event}
 use Rattle.script_lines.specs.Lines.{Content, Text, Long, TooMuch}
 use Rattle.script_runs.specs.Takings.{Taking, Skipped, Taken, Refused}
-use Rattle.story_accounts.specs.Sections.{is_for_another}
 use Rattle.line_view.specs.Recordings.{Recording, Recorded, recorded}
 use Rattle.line_view.specs.RunMachines.{FollowsRun, Stepped}
 use Rattle.line_view.specs.Sentences.{Sentences, with_sentence}

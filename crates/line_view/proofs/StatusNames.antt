@@ -13,8 +13,21 @@ use Rattle.script_runs.specs.Takings.{Taking, Skipped, Taken, Refused, taking, B
 use Rattle.program_ends.specs.declared.status.Status.{Status}
 use Rattle.program_ends.specs.declared.status.Status.TheVariants as status
 use Rattle.program_ends.specs.Statuses.{status_of}
-use Rattle.line_view.specs.RunMachines.{FollowsRun, Follows, RunRules, end_of, outcome_by, turn_by, turn_of}
+use Rattle.line_view.specs.declared.run_machine.Finding.{Finding}
+use Rattle.line_view.specs.declared.run_machine.Finding.TheVariants as findings
+use Rattle.line_view.specs.RunMachines.{FollowsRun, Follows, RunRules, end_of, found_status, outcome_by, turn_by, turn_of}
 use Rattle.line_view.specs.Tool.{Names}
+
+-- no finding is a fault of reading or writing
+pub no_read : (finding : Finding) → found_status finding ≡ status.ReadFault → ⊥
+no_read findings.Nothing is = cc
+no_read findings.Forged is = cc
+no_read findings.NotThere is = cc
+
+pub no_write : (finding : Finding) → found_status finding ≡ status.WriteFault → ⊥
+no_write findings.Nothing is = cc
+no_write findings.Forged is = cc
+no_write findings.NotThere is = cc
 
 -- a machine that records a run, and follows the script
 module _ {M : Type 0} (rules : RunRules M) (first : M) (follows : FollowsRun rules first) where
@@ -80,23 +93,24 @@ module _ {M : Type 0} (rules : RunRules M) (first : M) (follows : FollowsRun rul
   from_start : (b : List ℕ) (e : Bool) → is_some (first_bad b e) ≡ is_some (first_bad_from (rules.world first) (lines b e))
   from_start b e = ap (λ (w : World). is_some (first_bad_from w (lines b e))) (sym follows.begins)
 
-  named_by : (source0 source1 : SourceState) (sink0 sink1 : SinkState) (b w : List ℕ) (last : M) (exit : Exit) (forged : Bool)
+  named_by : (source0 source1 : SourceState) (sink0 sink1 : SinkState) (b w : List ℕ) (last : M) (exit : Exit) (finding : Finding)
       → Comes (outcome_by rules first) last source0 source1 sink0 sink1 b w exit
-      → Names (status_of exit forged status.Forged) (is_some (first_bad b source1.ended))
-  named_by source0 source1 sink0 sink1 b w last exits.Fine false comes =
+      → Names (status_of exit true (found_status finding)) (is_some (first_bad b source1.ended))
+  named_by source0 source1 sink0 sink1 b w last exits.Fine findings.Nothing comes =
       at_end source1 b comes.0 ∙ from_start b true ∙ fine_from last (lines b true) first comes.1
-  named_by source0 source1 sink0 sink1 b w last exits.Fine true comes =
+  named_by source0 source1 sink0 sink1 b w last exits.Fine findings.Forged comes =
       at_end source1 b comes.0 ∙ from_start b true ∙ fine_from last (lines b true) first comes.1
-  named_by source0 source1 sink0 sink1 b w last exits.BadScript forged comes =
+  named_by source0 source1 sink0 sink1 b w last exits.Fine findings.NotThere comes = tt
+  named_by source0 source1 sink0 sink1 b w last exits.BadScript finding comes =
       from_start b source1.ended ∙ stopped_from WINDOW (lines b source1.ended) first source1.ended comes.0
-  named_by source0 source1 sink0 sink1 b w last exits.ReadFault forged comes = tt
-  named_by source0 source1 sink0 sink1 b w last exits.WriteFault forged comes = tt
-  named_by source0 source1 sink0 sink1 b w last exits.Memory forged comes = tt
+  named_by source0 source1 sink0 sink1 b w last exits.ReadFault finding comes = tt
+  named_by source0 source1 sink0 sink1 b w last exits.WriteFault finding comes = tt
+  named_by source0 source1 sink0 sink1 b w last exits.Memory finding comes = tt
 
   -- the status of an account says whether a line is bad
-  pub status_names : (source0 source1 : SourceState) (sink0 sink1 : SinkState) (b w : List ℕ) (last : M) (exit : Exit) (forged : Bool) (s : Status)
-      → Comes (outcome_by rules first) last source0 source1 sink0 sink1 b w exit → s ≡ status_of exit forged status.Forged
+  pub status_names : (source0 source1 : SourceState) (sink0 sink1 : SinkState) (b w : List ℕ) (last : M) (exit : Exit) (finding : Finding) (s : Status)
+      → Comes (outcome_by rules first) last source0 source1 sink0 sink1 b w exit → s ≡ status_of exit true (found_status finding)
       → Names s (is_some (first_bad b source1.ended))
-  status_names source0 source1 sink0 sink1 b w last exit forged s comes is =
+  status_names source0 source1 sink0 sink1 b w last exit finding s comes is =
       subst (λ (x : Status). Names x (is_some (first_bad b source1.ended))) (sym is)
-      (named_by source0 source1 sink0 sink1 b w last exit forged comes)
+      (named_by source0 source1 sink0 sink1 b w last exit finding comes)

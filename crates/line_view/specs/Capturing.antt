@@ -16,7 +16,9 @@ use Rattle.line_view.specs.BadLines.{bad_words}
 use Rattle.line_view.specs.declared.capture.Wanted.{Wanted}
 use Rattle.line_view.specs.declared.capture.Wanted.TheVariants as wants
 use Rattle.line_view.specs.Recordings.{Recording, is_drawn, no_recording, recorded}
-use Rattle.line_view.specs.RunMachines.{RunRules, outcome_by}
+use Rattle.line_view.specs.declared.run_machine.Finding.{Finding}
+use Rattle.line_view.specs.declared.run_machine.Finding.TheVariants as findings
+use Rattle.line_view.specs.RunMachines.{RunRules, forged_if, outcome_by}
 
 -- what of a run is written, the run, the octets that no node sent, in the order of the events that brought them, and the keys that were drawn,
 -- each as its index and its octets
@@ -82,13 +84,13 @@ after_entry row entry m =
     }
 
 -- whether the frames are written, and an event was forged
-abbrev pub shows_by : Wanted → World → Bool
-shows_by (wants.Frames heard) w = nat_lt 0 w.forged
-shows_by wants.Keys w = false
-shows_by wants.Addresses w = false
+abbrev pub finding_by : Wanted → World → Finding
+finding_by (wants.Frames heard) w = forged_if (nat_lt 0 w.forged)
+finding_by wants.Keys w = findings.Nothing
+finding_by wants.Addresses w = findings.Nothing
 
-abbrev pub shows_forged : Capturing → Bool
-shows_forged m = shows_by m.wanted m.run.world
+abbrev pub finding : Capturing → Finding
+finding m = finding_by m.wanted m.run.world
 
 -- a line without an event says nothing
 abbrev pub rules : RunRules Capturing
@@ -98,7 +100,7 @@ rules =
       after_entry = after_entry;
       quiet_turn = λ m content. Skips;
       text = λ m bad. output_of m (bad_words bad);
-      shows_forged = shows_forged;
+      finding = finding;
     }
 
 -- what a script does, where its input has ended or not

@@ -1,5 +1,5 @@
 -- What `explain` writes of a script.
-use Rattle.std.specs.Prelude.{ℕ, Bool, nat_lt, List, [], ◌∷◌, ◌++◌, codes, length, Option, None, Some}
+use Rattle.std.specs.Prelude.{ℕ, ◌-◌, ◌==◌, ◌&&◌, Bool, true, nat_le, nat_lt, List, [], ◌∷◌, ◌++◌, codes, length, Option, None, Some, if◌then◌else◌}
 use Rattle.script_lines.specs.Outcomes.{Outcome, Skips}
 use Rattle.sentence_parts.specs.declared.part.Part.TheVariants.{Words, Number}
 use Rattle.sentence_parts.specs.Parts.{parts_text}
@@ -9,13 +9,16 @@ use Rattle.line_stories.specs.Stories.{Stories, stories_of}
 use Rattle.line_rules.specs.Worlds.{World}
 use Rattle.line_rules.specs.Runs.{Entry}
 use Rattle.story_accounts.specs.declared.section.Chosen.{Chosen}
+use Rattle.story_accounts.specs.declared.section.Chosen.TheVariants as chosens
 use Rattle.story_accounts.specs.Accounts.{RunAccount}
 use Rattle.story_accounts.specs.Indexes.{Index, index_of}
 use Rattle.story_accounts.specs.Sections.{account_text}
 use Rattle.line_view.specs.declared.bad_line.BadLine.{BadLine}
 use Rattle.line_view.specs.BadLines.{bad_text}
 use Rattle.line_view.specs.Recordings.{Recording, no_recording, recorded}
-use Rattle.line_view.specs.RunMachines.{RunRules, outcome_by}
+use Rattle.line_view.specs.declared.run_machine.Finding.{Finding}
+use Rattle.line_view.specs.declared.run_machine.Finding.TheVariants as findings
+use Rattle.line_view.specs.RunMachines.{RunRules, forged_if, outcome_by}
 use Rattle.line_view.specs.Sentences.{Sentences, no_sentences, with_sentence}
 
 pub record Explaining : Type 0 where
@@ -71,9 +74,43 @@ account_with chosen r told s =
 abbrev pub account_of : Chosen → Recording → Sentences → List ℕ
 account_of chosen r told = account_with chosen r told (stories_of r.events r.flights)
 
--- what was counted, the bad line, and what became of the chosen stories
+-- whether a run has what is chosen: sends have numbers from 1, nodes from 0
+unfoldable pub is_there : Chosen → Recording → Bool
+is_there (chosens.Send send) r = nat_le 1 send && nat_le send r.world.sends
+is_there (chosens.Node node) r = nat_lt node (length r.euis)
+is_there _ r = true
+
+abbrev pub range_text : List ℕ → ℕ → Option ℕ → List ℕ
+range_text name first None = parts_text (Words (codes "the run has no ") ∷ Words name ∷ Words (codes "s.\n") ∷ [])
+range_text name first (Some last) =
+    parts_text (Words name ∷ Words (codes "s are ") ∷ Number first ∷ Words (codes " to ") ∷ Number last ∷ Words (codes ".\n") ∷ [])
+
+abbrev pub no_text : List ℕ → ℕ → List ℕ
+no_text name asked = parts_text (Words (codes "\nThere is no ") ∷ Words name ∷ Words (codes " ") ∷ Number asked ∷ Words (codes ": ") ∷ [])
+
+-- that a run has nothing of this name and number, and what it has of the name
+unfoldable pub lacking_text : List ℕ → ℕ → ℕ → Option ℕ → List ℕ
+lacking_text name asked first last = no_text name asked ++ range_text name first last
+
+-- the number of the last of so many
+abbrev pub last_send : ℕ → Option ℕ
+last_send sends = if sends == 0 then None else Some sends
+
+abbrev pub last_node : ℕ → Option ℕ
+last_node nodes = if nodes == 0 then None else Some (nodes - 1)
+
+abbrev pub not_there_text : Chosen → Recording → List ℕ
+not_there_text (chosens.Send send) r = lacking_text (codes "send") send 1 (last_send r.world.sends)
+not_there_text (chosens.Node node) r = lacking_text (codes "node") node 0 (last_node (length r.euis))
+not_there_text _ r = []
+
+-- what became of the chosen stories, or that the run does not have what is chosen
+abbrev pub answer_of : Chosen → Recording → Sentences → List ℕ
+answer_of chosen r told = if is_there chosen r then account_of chosen r told else not_there_text chosen r
+
+-- what was counted, the bad line, and the answer
 unfoldable pub explain_text : Explaining → Option BadLine → List ℕ
-explain_text m bad = counts_text m.run.world ++ (bad_line_text bad ++ account_of m.chosen m.run m.told)
+explain_text m bad = counts_text m.run.world ++ (bad_line_text bad ++ answer_of m.chosen m.run m.told)
 
 -- # Lines
 
@@ -82,9 +119,9 @@ abbrev pub after_entry : ℕ → Entry → Explaining → Explaining
 after_entry row entry m =
     record m { run = recorded row entry m.run; told = with_sentence entry.event (recorded row entry m.run) m.told }
 
--- whether an event was forged
-abbrev pub is_forged : Explaining → Bool
-is_forged m = nat_lt 0 m.run.world.forged
+-- that the run does not have what is chosen, or whether an event was forged
+abbrev pub finding : Explaining → Finding
+finding m = if is_there m.chosen m.run then forged_if (nat_lt 0 m.run.world.forged) else findings.NotThere
 
 -- a line without an event says nothing
 abbrev pub rules : RunRules Explaining
@@ -94,7 +131,7 @@ rules =
       after_entry = after_entry;
       quiet_turn = λ m content. Skips;
       text = explain_text;
-      shows_forged = is_forged;
+      finding = finding;
     }
 
 -- what a script does, where its input has ended or not

@@ -1,3 +1,4 @@
+pub mod Truths
 pub mod BadLines
 pub mod Explaining
 pub mod Recordings

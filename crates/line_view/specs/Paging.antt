@@ -8,12 +8,11 @@ use Rattle.node_pasts.specs.Pasts.{NodePast, looked as past_looked, no_past}
 use Rattle.line_tale.specs.declared.act.Act.{Act}
 use Rattle.line_tale.specs.declared.act.Act.TheVariants as acts
 use Rattle.line_tale.specs.declared.told.TaleEvent.{TaleEvent}
-use Rattle.line_tale.specs.Kinds.{actor_of, makes_node, person_of}
+use Rattle.line_tale.specs.Kinds.{actor_of, is_for_another, makes_node, person_of}
 use Rattle.line_tale.specs.Tales.{numbered}
 use Rattle.line_tale.specs.Verdicts.{ends_of}
 use Rattle.line_tale.specs.declared.ends.Ends.{Ends}
 use Rattle.story_accounts.specs.Indexes.{Index, index_of}
-use Rattle.story_accounts.specs.Sections.{is_for_another}
 use Rattle.line_stories.specs.Stories.{Stories, stories_of}
 use Rattle.line_events.specs.declared.event.Event.{Event}
 use Rattle.line_rules.specs.Worlds.{node_at}
@@ -25,7 +24,8 @@ use Rattle.line_view.specs.BadLines.{bad_words}
 use Rattle.line_view.specs.declared.bad_line.BadLine.{BadLine}
 use Rattle.line_view.specs.Explaining.{run_account}
 use Rattle.line_view.specs.Recordings.{Recording, no_recording, recorded}
-use Rattle.line_view.specs.RunMachines.{RunRules, outcome_by}
+use Rattle.line_view.specs.declared.run_machine.Finding.{Finding}
+use Rattle.line_view.specs.RunMachines.{RunRules, forged_if, outcome_by}
 use Rattle.line_view.specs.Sentences.{Sentences, no_sentences, with_sentence}
 
 pub record Paging : Type 0 where
@@ -154,8 +154,8 @@ remarked Long p = p
 remarked TooMuch p = p
 
 -- whether an event was forged
-abbrev pub is_forged : Paging → Bool
-is_forged p = nat_lt 0 p.run.world.forged
+abbrev pub finding : Paging → Finding
+finding p = forged_if (nat_lt 0 p.run.world.forged)
 
 -- what a line without an event says is kept
 abbrev pub rules : RunRules Paging
@@ -165,7 +165,7 @@ rules =
       after_entry = after_entry;
       quiet_turn = λ p content. Takes (remarked content p) [];
       text = page_text;
-      shows_forged = is_forged;
+      finding = finding;
     }
 
 -- what a script does, where its input has ended or not

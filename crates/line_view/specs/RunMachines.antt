@@ -1,5 +1,5 @@
 -- What a command makes of a script that records its run, and writes where the run ends.
-use Rattle.std.specs.Prelude.{◌≡◌, ℕ, Bool, List, [], Option, None, Some}
+use Rattle.std.specs.Prelude.{◌≡◌, ℕ, Bool, true, false, List, [], Option, None, Some}
 use Rattle.script_lines.specs.Lines.{Content, TooMuch}
 use Rattle.script_lines.specs.Clauses.{IsStop}
 use Rattle.script_lines.specs.Outcomes.{Turn, Skips, Takes, Stops, Outcome, outcome as outcome_of}
@@ -8,7 +8,22 @@ use Rattle.line_rules.specs.Runs.{Entry}
 use Rattle.line_rules.specs.Worlds.{World, start}
 use Rattle.script_runs.specs.Takings.{Taking, Skipped, Taken, Refused}
 unfoldable use Rattle.script_runs.specs.Takings.{taking}
+use Rattle.program_ends.specs.declared.status.Status.{Status}
+use Rattle.program_ends.specs.declared.status.Status.TheVariants as status
 use Rattle.line_view.specs.declared.bad_line.BadLine.{BadLine}
+use Rattle.line_view.specs.declared.run_machine.Finding.{Finding}
+use Rattle.line_view.specs.declared.run_machine.Finding.TheVariants as findings
+
+-- whether an event was forged, and what is written shows it
+abbrev pub forged_if : Bool → Finding
+forged_if true = findings.Forged
+forged_if false = findings.Nothing
+
+-- the status of a run that came to its end
+abbrev pub found_status : Finding → Status
+found_status findings.Nothing = status.Fine
+found_status findings.Forged = status.Forged
+found_status findings.NotThere = status.Usage
 
 -- What differs between the commands.
 pub record RunRules (M : Type 0) : Type 0 where
@@ -20,8 +35,8 @@ pub record RunRules (M : Type 0) : Type 0 where
   pub quiet_turn : M → Content → Turn M
   -- what is written where the run ends, with the bad line, if there is one
   pub text : M → Option BadLine → List ℕ
-  -- whether an event was forged, and what is written shows it
-  pub shows_forged : M → Bool
+  -- what the status says of a run that came to its end
+  pub finding : M → Finding
 
 -- # Lines
 

@@ -17,13 +17,12 @@ use Rattle.line_tale.specs.declared.act.Act.{Act}
 use Rattle.line_tale.specs.declared.act.Act.TheVariants as acts
 use Rattle.line_tale.specs.declared.told.TaleEvent.{TaleEvent}
 use Rattle.line_tale.specs.declared.told.TaleFlight.{TaleFlight}
-use Rattle.line_tale.specs.Kinds.{actor_of, makes_node}
+use Rattle.line_tale.specs.Kinds.{actor_of, is_for_another, makes_node}
 use Rattle.line_tale.specs.Lists.{changed_place}
 use Rattle.line_tale.specs.Tales.{made_by, numbered}
 use Rattle.line_stories.specs.Stories.{homes_with, newcomer}
 use Rattle.sentence_parts.specs.declared.part.Who.{Who}
 use Rattle.sentence_parts.specs.declared.part.Who.TheVariants as whos
-use Rattle.story_accounts.specs.Sections.{is_for_another}
 use Rattle.event_sentences.specs.declared.heard.DrawnKey.{DrawnKey}
 use Rattle.event_sentences.specs.declared.heard.Heard.{Heard}
 use Rattle.event_sentences.specs.Heards.{heard_flight, heard_octets}

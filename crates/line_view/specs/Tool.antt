@@ -4,23 +4,28 @@ use Rattle.std.specs.Prelude.{if◌then◌else◌}
 use Rattle.std.specs.declared.option.Option.{Option}
 use Rattle.std.specs.declared.alloc.Global.{Global}
 use Rattle.plc_base.specs.Streams.{SourceState, SinkState}
+use Rattle.script_lines.specs.declared.machine.Exit.{Exit}
+use Rattle.script_lines.specs.Clauses.{Drives}
 use Rattle.script_lines.specs.Outcomes.{Outcome}
 use Rattle.script_runs.specs.Takings.{first_bad}
+use Rattle.line_view.specs.declared.run_machine.Finding.{Finding}
+use Rattle.line_view.specs.RunMachines.{found_status}
 use Rattle.line_view.specs.declared.tool.Command.{Command}
 use Rattle.line_view.specs.declared.tool.Command.TheVariants.{Capture, Check, Explain, Page}
 use Rattle.program_ends.specs.declared.status.Status.{Status}
 use Rattle.program_ends.specs.declared.status.Status.TheVariants as status
 use Rattle.program_ends.specs.Runs.{Ran}
+use Rattle.program_ends.specs.Statuses.{status_of}
 use Rattle.line_view.specs.Checking.{is_bad, outcome}
 use Rattle.line_script.specs.Words.{number_within}
 use Rattle.story_accounts.specs.declared.section.Chosen.{Chosen}
 use Rattle.story_accounts.specs.declared.section.Chosen.TheVariants as chosens
-use Rattle.line_view.specs.Explaining.{explained, is_forged}
+use Rattle.line_view.specs.Explaining.{explained, finding}
 use Rattle.line_view.specs.declared.capture.Wanted.{Wanted}
 use Rattle.line_view.specs.declared.capture.Wanted.TheVariants as wants
-use Rattle.line_view.specs.Capturing.{captured, shows_forged}
+use Rattle.line_view.specs.Capturing.{captured, finding as capture_finding}
 use Rattle.run_pages.specs.Pages.{IsPage}
-use Rattle.line_view.specs.Paging.{paged, is_forged as is_page_forged}
+use Rattle.line_view.specs.Paging.{paged, finding as page_finding}
 use Rattle.line_view.specs.Checked.{faults, first_of, faults_text, closing}
 
 -- what Wireshark reads, if a word asks for that
@@ -84,19 +89,23 @@ Names status.Usage bad = Unit {0}
 Names status.LimitReached bad = ⊥
 
 -- What an account of a run did, and what its status says.
-pub record Accounts {M : Type 0} (forged : M → Bool) (outcome : List ℕ → Bool → Outcome M) (source0 source1 : SourceState)
+pub record Accounts {M : Type 0} (finding : M → Finding) (outcome : List ℕ → Bool → Outcome M) (source0 source1 : SourceState)
     (sink0 sink1 : SinkState) (result : Status) : Type 0 where
-  pub ran : Ran forged status.Forged outcome source0 source1 sink0 sink1 result
+  pub exit : Exit
+  pub last : M
+  pub drives : Drives outcome last source0 source1 sink0 sink1 exit
+  -- of a run that came to its end the status says what was found
+  pub status : result ≡ status_of exit true (found_status (finding last))
   -- the status says whether a line of the script is bad
-  pub named : Names result (is_some (first_bad ran.drives.b source1.ended))
+  pub named : Names result (is_some (first_bad drives.b source1.ended))
 
 -- what was said of the chosen stories
 abbrev pub Explains : Chosen → SourceState → SourceState → SinkState → SinkState → Status → Type 0
-Explains chosen source0 source1 sink0 sink1 result = Accounts is_forged (explained chosen) source0 source1 sink0 sink1 result
+Explains chosen source0 source1 sink0 sink1 result = Accounts finding (explained chosen) source0 source1 sink0 sink1 result
 
 -- what was written for Wireshark
 abbrev pub Captures : Wanted → SourceState → SourceState → SinkState → SinkState → Status → Type 0
-Captures wanted source0 source1 sink0 sink1 result = Accounts shows_forged (captured wanted) source0 source1 sink0 sink1 result
+Captures wanted source0 source1 sink0 sink1 result = Accounts capture_finding (captured wanted) source0 source1 sink0 sink1 result
 
 -- all was written
 abbrev pub IsWhole : Status → Type 0
@@ -111,9 +120,9 @@ IsWhole status.LimitReached = ⊥
 
 -- What was shown of a run: its page, of which a part is left out only where something failed.
 pub record Pages (source0 source1 : SourceState) (sink0 sink1 : SinkState) (result : Status) : Type 0 where
-  pub account : Accounts is_page_forged paged source0 source1 sink0 sink1 result
+  pub account : Accounts page_finding paged source0 source1 sink0 sink1 result
   -- what is written whole is a page that closes all that it opens, whatever the script holds
-  pub well_formed : IsWhole result → IsPage account.ran.drives.w
+  pub well_formed : IsWhole result → IsPage account.drives.w
 
 -- What a check did, and what holds of it.
 pub record Checks (json : Bool) (source0 source1 : SourceState) (sink0 sink1 : SinkState) (result : Status) : Type 0 where

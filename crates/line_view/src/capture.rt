@@ -9,7 +9,7 @@ ghost use Rattle.line_view.specs.Capturing as capturing;
 
 use crate::bad_line::{BadLine, bad_words};
 use crate::recorder::{Recorder, is_drawn};
-use crate::run_machine::RunMachine;
+use crate::run_machine::{Finding, RunMachine, forged_if};
 use line_capture::{DrawnKeys, Recording, addresses_text, capture_file, keys_text};
 use line_events::{Answer, Event, MAX_EVENTS};
 use line_script::{Reason, Totals};
@@ -313,11 +313,11 @@ impl RunMachine for Capture {
     }
 
     // Whether the frames are written, and an event was forged.
-    fn shows_forged(&self) -> bool {
+    fn finding(&self) -> Finding {
         match self.wanted {
-            Wanted::Frames { .. } => self.run.is_forged(),
-            Wanted::Keys => false,
-            Wanted::Addresses => false,
+            Wanted::Frames { .. } => forged_if(self.run.is_forged()),
+            Wanted::Keys => Finding::Nothing,
+            Wanted::Addresses => Finding::Nothing,
         }
     }
 }

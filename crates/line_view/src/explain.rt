@@ -4,7 +4,7 @@ ghost use Rattle.line_view.specs.Explaining as explaining;
 
 use crate::bad_line::{BadLine, push_bad};
 use crate::recorder::Recorder;
-use crate::run_machine::RunMachine;
+use crate::run_machine::{Finding, RunMachine, forged_if};
 use crate::teller::Teller;
 use line_events::Event;
 use line_script::Reason;
@@ -134,6 +134,138 @@ fn push_account(
     push_account_with(text, alloc, chosen, run, teller, &telling)
 }
 
+// Whether the run has what is chosen.
+#[tactic(auto, unfolding(crate::specs::Explaining::is_there))]
+fn is_there(chosen: Chosen, run: &Recorder) -> bool
+    ensures { result ≡ explaining.is_there chosen run.now }
+{
+    match chosen {
+        Chosen::Send { send } => 1 <= send && send <= run.world.counts().sends,
+        Chosen::Node { node } => (node as usize) < run.euis.len(),
+        _ => true,
+    }
+}
+
+// Numbers from the first to the last, or that there are none.
+fn push_range(
+    text: &mut String,
+    alloc: Global,
+    name: &str,
+    first: usize,
+    last: Option<usize>,
+) -> Result<(), AllocError>
+    ensures { OnOk result (string_bytes text.new ≡ string_bytes text.old ++ explaining.range_text name.now first last) }
+{
+    match last {
+        None => push_parts(
+            text,
+            alloc,
+            &[words("the run has no "), words(name), words("s.\n")],
+        ),
+        Some(last) => push_parts(
+            text,
+            alloc,
+            &[
+                words(name),
+                words("s are "),
+                number(first),
+                words(" to "),
+                number(last),
+                words(".\n"),
+            ],
+        ),
+    }
+}
+
+fn push_no(text: &mut String, alloc: Global, name: &str, asked: u32) -> Result<(), AllocError>
+    ensures { OnOk result (string_bytes text.new ≡ string_bytes text.old ++ explaining.no_text name.now asked) }
+{
+    push_parts(
+        text,
+        alloc,
+        &[
+            words("\nThere is no "),
+            words(name),
+            words(" "),
+            number(asked as usize),
+            words(": "),
+        ],
+    )
+}
+
+// That a run has nothing of this name and number, and what it has of the name.
+#[tactic(auto, unfolding(crate::specs::Explaining::lacking_text))]
+fn push_lacking(
+    text: &mut String,
+    alloc: Global,
+    name: &str,
+    asked: u32,
+    first: usize,
+    last: Option<usize>,
+) -> Result<(), AllocError>
+    ensures { OnOk result (string_bytes text.new ≡ string_bytes text.old ++ explaining.lacking_text name.now asked first last) }
+{
+    push_no(text, alloc, name, asked)?;
+    push_range(text, alloc, name, first, last)
+}
+
+fn last_send(sends: u32) -> Option<usize>
+    ensures { result ≡ explaining.last_send sends }
+{
+    if sends == 0 {
+        return None;
+    }
+    Some(sends as usize)
+}
+
+fn last_node(nodes: usize) -> Option<usize>
+    ensures { result ≡ explaining.last_node nodes }
+{
+    if nodes == 0 {
+        return None;
+    }
+    Some(nodes - 1)
+}
+
+// That a run does not have what is chosen.
+fn push_not_there(
+    text: &mut String,
+    alloc: Global,
+    chosen: Chosen,
+    run: &Recorder,
+) -> Result<(), AllocError>
+    ensures { OnOk result (string_bytes text.new ≡ string_bytes text.old ++ explaining.not_there_text chosen run.now) }
+{
+    match chosen {
+        Chosen::Send { send } => {
+            let last = last_send(run.world.counts().sends);
+            push_lacking(text, alloc, "send", send, 1, last)
+        }
+        Chosen::Node { node } => {
+            let last = last_node(run.euis.len());
+            push_lacking(text, alloc, "node", node, 0, last)
+        }
+        _ => Ok(()),
+    }
+}
+
+// Appends what became of the chosen stories, or that the run does not have what is chosen.
+fn push_answer(
+    text: &mut String,
+    alloc: Global,
+    chosen: Chosen,
+    run: &Recorder,
+    teller: &Teller,
+) -> Result<(), AllocError>
+    ensures { OnOk result (string_bytes text.new
+        ≡ string_bytes text.old ++ explaining.answer_of chosen run.now teller.now) }
+{
+    if is_there(chosen, run) {
+        return push_account(text, alloc, chosen, run, teller);
+    }
+    push_not_there(text, alloc, chosen, run)
+}
+
 /// The run of a script with its sentences, and which of its stories are chosen. It says at its end what became of what was asked.
 #[derive(Drop)]
 pub struct Explain {
@@ -177,7 +309,7 @@ impl Explain {
         let mut text = String::new(self.alloc);
         push_counts(&mut text, self.alloc, &self.run)?;
         push_bad_line(&mut text, self.alloc, bad)?;
-        push_account(&mut text, self.alloc, self.chosen, &self.run, &self.teller)?;
+        push_answer(&mut text, self.alloc, self.chosen, &self.run, &self.teller)?;
         Ok(text)
     }
 }
@@ -209,7 +341,10 @@ impl RunMachine for Explain {
         Ok(text.into_bytes())
     }
 
-    fn shows_forged(&self) -> bool {
-        self.run.is_forged()
+    fn finding(&self) -> Finding {
+        if is_there(self.chosen, &self.run) {
+            return forged_if(self.run.is_forged());
+        }
+        Finding::NotThere
     }
 }

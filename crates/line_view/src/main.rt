@@ -7,6 +7,7 @@ mod capture;
 mod check;
 mod checker;
 mod explain;
+mod laws;
 mod octet_output;
 mod page;
 mod recorder;

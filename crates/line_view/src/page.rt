@@ -4,12 +4,12 @@ ghost use Rattle.line_view.specs.Paging as paging;
 
 use crate::bad_line::{BadLine, bad_words};
 use crate::recorder::Recorder;
-use crate::run_machine::RunMachine;
+use crate::run_machine::{Finding, RunMachine, forged_if};
 use crate::teller::{MOST_NODES, Teller, nothing_shown};
 use line_events::Event;
 use line_script::Reason;
 use line_stories::{Telling, stories_of};
-use line_tale::{Act, Ends, TaleEvent, actor_of, ends_of, makes_node, person_of};
+use line_tale::{Act, Ends, TaleEvent, actor_of, ends_of, is_for_another, makes_node, person_of};
 use line_world::Buffers;
 use node_pasts::Pasts;
 use node_rules::Shown;
@@ -17,7 +17,7 @@ use run_charts::ChartRun;
 use run_pages::{Remarks, Sheet};
 use std::alloc::{AllocError, Global};
 use std::marker::Model;
-use story_accounts::{Account, Index, is_for_another};
+use story_accounts::{Account, Index};
 
 /// The run of a script with its sentences, what the script says, and what the nodes were. It shows at its end what the run did.
 #[derive(Drop)]
@@ -274,7 +274,7 @@ impl RunMachine for Page {
         self.text(bad)
     }
 
-    fn shows_forged(&self) -> bool {
-        self.run.is_forged()
+    fn finding(&self) -> Finding {
+        forged_if(self.run.is_forged())
     }
 }

@@ -4,7 +4,7 @@ ghost use Rattle.line_events.specs.Events.{IsEvent};
 ghost use Rattle.script_lines.specs.Clauses.{GoesOn, StopsWith, Turned};
 ghost use Rattle.script_lines.specs.Lines.{Content, Text};
 ghost use Rattle.script_runs.specs.Takings.{Skipped, event_taking};
-ghost use Rattle.line_view.specs.RunMachines.{RunRules, Stepped, end_of, refused_text, stops_at_too_much, turn_by, turn_of};
+ghost use Rattle.line_view.specs.RunMachines.{RunRules, Stepped, end_of, forged_if, found_status, refused_text, stops_at_too_much, turn_by, turn_of};
 
 use crate::bad_line::{BadLine, bad_line};
 use crate::octet_output::write_octets;
@@ -12,9 +12,42 @@ use line_events::Event;
 use line_script::{LINE_OCTETS, Reading, Reason, read_line};
 use line_world::Buffers;
 use plc_base::Sink;
+use program_ends::Status;
 use script_lines::{LineKind, LineMachine, StopReason};
 use std::alloc::AllocError;
 use std::marker::Model;
+
+/// What the status says of a run that came to its end.
+#[derive(Clone, Copy, Debug, PartialEq, Eq)]
+pub enum Finding {
+    /// Nothing more.
+    Nothing,
+    /// An event was forged, and what is written shows it.
+    Forged,
+    /// The run does not have what was asked for, and what is written says so.
+    NotThere,
+}
+
+/// That an event was forged, if one was.
+pub fn forged_if(forged: bool) -> Finding
+    ensures { result ≡ forged_if forged }
+{
+    if forged {
+        return Finding::Forged;
+    }
+    Finding::Nothing
+}
+
+/// The status of a run that came to its end.
+pub fn found_status(finding: Finding) -> Status
+    ensures { result ≡ found_status finding }
+{
+    match finding {
+        Finding::Nothing => Status::Fine,
+        Finding::Forged => Status::Forged,
+        Finding::NotThere => Status::Usage,
+    }
+}
 
 /// What differs between the commands that record a run, and write where it ends.
 pub trait RunMachine: Drop {
@@ -41,9 +74,9 @@ pub trait RunMachine: Drop {
     fn output(&self, bad: Option<BadLine>) -> Result<Vec<u8>, AllocError>
         ensures { IfOk result (λ octets. octets.items ≡ rules.text self.now bad) };
 
-    /// Whether an event was forged, and what is written shows it.
-    fn shows_forged(&self) -> bool
-        ensures { result ≡ rules.shows_forged self.now };
+    /// What the status says of the run, where it came to its end.
+    fn finding(&self) -> Finding
+        ensures { result ≡ rules.finding self.now };
 }
 
 /// Gives the lines of a script to a machine. A contract sees the machine.
@@ -74,11 +107,11 @@ impl<M: RunMachine> Lines<M> {
         }
     }
 
-    /// Whether an event was forged, and what is written shows it.
-    pub fn shows_forged(&self) -> bool
-        ensures { result ≡ M.rules.shows_forged self.now }
+    /// What the status says of the run, where it came to its end.
+    pub fn finding(&self) -> Finding
+        ensures { result ≡ M.rules.finding self.now }
     {
-        self.machine.shows_forged()
+        self.machine.finding()
     }
 }
 

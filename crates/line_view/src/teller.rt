@@ -9,14 +9,14 @@ use crate::recorder::{Recorder, is_drawn};
 use event_sentences::{DrawnKey, Heard, Moment, Watch, heard_flight, heard_octets};
 use line_events::{Answer, Event};
 use line_stories::push_home;
-use line_tale::{Act, TaleEvent, actor_of, made_by, makes_node};
+use line_tale::{Act, TaleEvent, actor_of, is_for_another, made_by, makes_node};
 use line_world::World;
 use node_rules::{Shown, ShownPeer, ShownPeers, ShownRoute, ShownRoutes};
 use plc_base::{FrameBuf, Key};
 use sentence_parts::{Who, who_of};
 use std::alloc::{AllocError, Global};
 use std::marker::Model;
-use story_accounts::{Marks, is_for_another, numbered};
+use story_accounts::{Marks, numbered};
 
 /// A line has at most so many nodes.
 pub const MOST_NODES: usize = 1000;

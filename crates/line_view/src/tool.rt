@@ -6,14 +6,16 @@ ghost use Rattle.story_accounts.specs.declared.section.Chosen.{Chosen};
 ghost use Rattle.line_view.specs.declared.capture.Wanted.{Wanted};
 ghost use Rattle.line_view.specs.RunMachines.{FollowsRun, outcome_by};
 ghost use Rattle.program_ends.specs.Texts.{WritesText};
+ghost use Rattle.line_view.specs.Truths.{UpsAreTold};
 ghost use Rattle.line_view.specs.Tool.{Accounts, Captures, Checks, Explains, Pages, capture_with, check_with, chosen_by};
 ghost use Rattle.line_view.specs.Tool.{command_of, explain_with, one_word, three_words, two_words, usage_text, wanted_word};
 
 use crate::capture::{Capture, Wanted};
 use crate::check::Check;
 use crate::explain::Explain;
+use crate::laws::sentences_are_true;
 use crate::page::Page;
-use crate::run_machine::{Lines, RunMachine};
+use crate::run_machine::{Lines, RunMachine, found_status};
 use line_script::number_within;
 use plc_base::{Sink, Source};
 use program_ends::{Status, status_of, write_whole};
@@ -194,7 +196,7 @@ fn account<M: RunMachine, S: Source, K: Sink>(
     sink: &mut K,
 ) -> Status
     ensures accounts { (first : M) → IfOk made (λ machine. machine ≡ first) → FollowsRun M.rules first
-        → Accounts M.rules.shows_forged (outcome_by M.rules first) (S.state source.old) (S.state source.new) (K.state sink.old) (K.state sink.new)
+        → Accounts M.rules.finding (outcome_by M.rules first) (S.state source.old) (S.state source.new) (K.state sink.old) (K.state sink.new)
         result }
     ensures read { result ≡ Status.ReadFault → SourceRose (S.state source.old) (S.state source.new) }
     ensures write { result ≡ Status.WriteFault → SinkRose (K.state sink.old) (K.state sink.new) }
@@ -207,7 +209,7 @@ fn account<M: RunMachine, S: Source, K: Sink>(
     };
     let mut lines = Lines::new(machine);
     let exit = run(alloc, &mut lines, source, sink);
-    status_of(exit, lines.shows_forged(), Status::Forged)
+    status_of(exit, true, found_status(lines.finding()))
 }
 
 /// Reads a script from the source, and writes to the sink what became of the chosen stories.
@@ -259,7 +261,8 @@ const USAGE: &[u8; 114] =
 /// All that the program does, with the words after its name.
 ///
 /// `check` reads a script and writes what is wrong with each of its lines, `check --json` the same as objects of JSON. `explain` writes what
-/// became of each datagram and each joining, with `send K` or `node N` of those alone. `page` writes a page of HTML that shows the run. `capture`
+/// became of each datagram and each joining, with `send K` or `node N` of those alone; where the run has no such send or node it says which there
+/// are, with the status of words of no form. `page` writes a page of HTML that shows the run. `capture`
 /// writes the frames as a capture, with `--heard` each arrival too, `keys` the keys and `addresses` the short addresses of a run, as Wireshark
 /// reads them. Other words write the usage line, and read nothing. Where a read fails, `check` wrote what it found in the lines before it, the others
 /// nothing.
@@ -290,12 +293,15 @@ pub fn run_view<S: Source, K: Sink>(
     // Other words write the usage line, and nothing is read.
     ensures usage { command_of words.now ≡ None
         → (source.new ≡ source.old) × WritesText usage_text Status.Usage (K.state sink.old) (K.state sink.new) result }
+    // What is said of a datagram that is handed up is true of the run.
+    ensures truth { UpsAreTold }
     // A fault has its cause outside.
     ensures read { result ≡ Status.ReadFault → SourceRose (S.state source.old) (S.state source.new) }
     ensures write { result ≡ Status.WriteFault → SinkRose (K.state sink.old) (K.state sink.new) }
     ensures source { SourceFaults (S.state source.old) (S.state source.new) }
     ensures sink { (K.state sink.old).faults ≤ (K.state sink.new).faults }
 {
+    sentences_are_true();
     match command_of(words) {
         Some(Command::Check { json }) => check(alloc, json, source, sink),
         Some(Command::Explain { chosen }) => explain(alloc, chosen, source, sink),

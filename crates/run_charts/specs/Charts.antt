@@ -14,7 +14,7 @@ use Rattle.line_tale.specs.Tales.{numbered}
 use Rattle.run_charts.specs.declared.row.Row.{Row}
 use Rattle.run_charts.specs.declared.outcome.Outcome.{Outcome}
 use Rattle.run_charts.specs.declared.outcome.Outcome.TheVariants as outcomes
-use Rattle.run_charts.specs.Outcomes.{is_refused, outcome_of}
+use Rattle.run_charts.specs.Outcomes.{has_cross, outcome_of}
 use Rattle.run_charts.specs.Runs.{Run, is_hushed, missed_at}
 use Rattle.run_charts.specs.Rows.{flight_heard, last_row, line_after, members, number_at, rows_of}
 use Rattle.run_charts.specs.Columns.{columns_of, doer_of}
@@ -92,7 +92,7 @@ cross_if false outcome x y = Nothing
 
 -- it comes to the node that it is for
 unfoldable pub coming : Outcome → ℕ → ℕ → ℕ → Markup
-coming outcome from to y = Both (arrow outcome from to y) (cross_if (is_refused outcome) outcome to y)
+coming outcome from to y = Both (arrow outcome from to y) (cross_if (has_cross outcome) outcome to y)
 
 abbrev pub coming_at : Option ℕ → Outcome → ℕ → ℕ → Markup
 coming_at None outcome from y = Nothing

@@ -22,9 +22,10 @@ fine_or_good _ = outcomes.Fine
 unfoldable pub outcome_of : TaleEvent → Outcome
 outcome_of e = if e.forged then outcomes.Forged else (if is_ok e.answer then fine_or_good e.answer else refused_or_overheard e.answer)
 
-abbrev pub is_refused : Outcome → Bool
-is_refused outcomes.Refused = true
-is_refused _ = false
+-- whether an arrow ends in a cross
+abbrev pub has_cross : Outcome → Bool
+has_cross outcomes.Refused = true
+has_cross _ = false
 
 -- # Classes
 

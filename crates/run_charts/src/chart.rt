@@ -8,7 +8,7 @@ use crate::drawing::{
     column_x, line_y, push_arrow, push_cross, push_dot, push_half, push_label, push_numbers,
     push_passing, push_square,
 };
-use crate::outcome::{Outcome, is_refused, outcome_of};
+use crate::outcome::{Outcome, has_cross, outcome_of};
 use crate::row::{Row, flight_heard, line_after, members, number_at};
 use crate::run::ChartRun;
 use frame_words::kind_word;
@@ -263,7 +263,7 @@ impl<'a> ChartRun<'a> {
         ensures { OnOk result (out.new.items ≡ out.old.items ++ markup_text (charts.coming outcome from to y)) }
     {
         push_arrow(out, self.alloc, outcome, from, to, y)?;
-        self.push_cross_if(out, is_refused(outcome), outcome, to, y)
+        self.push_cross_if(out, has_cross(outcome), outcome, to, y)
     }
 
     // A flight that comes to the node of this column, if it has one.

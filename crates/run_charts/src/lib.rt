@@ -25,5 +25,5 @@ mod saying;
 
 pub use chart::push_chart;
 pub use lanes::push_lanes;
-pub use outcome::{Outcome, is_refused, outcome_of};
+pub use outcome::{Outcome, outcome_of};
 pub use run::{ChartRun, is_missed};

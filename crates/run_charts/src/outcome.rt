@@ -56,9 +56,9 @@ pub fn outcome_of(told: &TaleEvent) -> Outcome
     refused_or_overheard(told.answer)
 }
 
-/// Whether something was refused, and not since it is for another node.
-pub fn is_refused(outcome: Outcome) -> bool
-    ensures { result ≡ outcomes.is_refused outcome }
+/// Whether an arrow of it ends in a cross.
+pub fn has_cross(outcome: Outcome) -> bool
+    ensures { result ≡ outcomes.has_cross outcome }
 {
     match outcome {
         Outcome::Refused => true,

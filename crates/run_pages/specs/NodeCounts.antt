@@ -1,9 +1,8 @@
 -- What is counted of each node of a run.
 use Rattle.std.specs.Prelude.{ℕ, ◌+◌, Bool, true, List, [], ◌∷◌, slice_get, None, Some}
 use Rattle.line_tale.specs.declared.told.TaleEvent.{TaleEvent}
-use Rattle.line_tale.specs.Kinds.{actor_of}
+use Rattle.line_tale.specs.Kinds.{actor_of, is_refused}
 use Rattle.line_tale.specs.Lists.{changed_place}
-use Rattle.run_charts.specs.Outcomes.{is_refused, outcome_of}
 use Rattle.run_pages.specs.Counting.{count_if}
 use Rattle.run_pages.specs.declared.node_counts.NodeCount.{NodeCount}
 
@@ -15,7 +14,7 @@ with_address address c = record c { address = Some address }
 
 -- with one of its events
 abbrev pub with_event : TaleEvent → NodeCount → NodeCount
-with_event e c = record c { refusals = count_if (is_refused (outcome_of e)) c.refusals; forged = count_if e.forged c.forged }
+with_event e c = record c { refusals = count_if (is_refused e.answer) c.refusals; forged = count_if e.forged c.forged }
 
 -- with a datagram that it was to send, which came or did not
 abbrev pub with_datagram : Bool → NodeCount → NodeCount

@@ -16,7 +16,7 @@ use Rattle.line_tale.specs.Verdicts.{is_good}
 use Rattle.run_charts.specs.Charts.{chart}
 use Rattle.run_charts.specs.Lanes.{lanes}
 use Rattle.run_maps.specs.Maps.{run_map}
-use Rattle.run_charts.specs.Outcomes.{is_refused, outcome_of}
+use Rattle.line_tale.specs.Kinds.{is_refused}
 use Rattle.run_charts.specs.Runs.{Run, is_missed}
 use Rattle.sentence_parts.specs.declared.part.Part.TheVariants as part
 use Rattle.sentence_parts.specs.Parts.{parts_text}
@@ -85,7 +85,7 @@ missed s = missed_from s.account.lots 0
 
 abbrev pub refusals_from : List TaleEvent → ℕ → ℕ
 refusals_from [] n = n
-refusals_from (e ∷ es) n = refusals_from es (count_if (is_refused (outcome_of e)) n)
+refusals_from (e ∷ es) n = refusals_from es (count_if (is_refused e.answer) n)
 
 abbrev pub refusals : Sheet → ℕ
 refusals s = refusals_from s.account.events 0

@@ -3,8 +3,7 @@ ghost use Rattle.std.specs.Prelude.{◌≡◌};
 ghost use Rattle.run_pages.specs.NodeCounts as node_counts;
 
 use crate::counting::count_if;
-use line_tale::{TaleEvent, actor_of};
-use run_charts::{is_refused, outcome_of};
+use line_tale::{TaleEvent, actor_of, is_refused};
 
 /// What is counted of a node.
 #[derive(Clone, Copy)]
@@ -53,7 +52,7 @@ fn with_event(told: &TaleEvent, old: &NodeCount) -> NodeCount
         address: old.address,
         datagrams: old.datagrams,
         came: old.came,
-        refusals: count_if(is_refused(outcome_of(told)), old.refusals),
+        refusals: count_if(is_refused(told.answer), old.refusals),
         forged: count_if(told.forged, old.forged),
     }
 }

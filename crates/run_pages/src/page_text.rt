@@ -6,7 +6,7 @@ ghost use Rattle.run_pages.specs.Pages as pages;
 use crate::counting::{count_if, is_kind, is_yes};
 use crate::node_table::push_nodes_table;
 use crate::reasons::push_reasons;
-use line_tale::{Lot, Story, StoryKind, TaleEvent, is_good};
+use line_tale::{Lot, Story, StoryKind, TaleEvent, is_good, is_refused};
 use markup::{Attribute, Element};
 use markup_parts::{end, given, given_number, open, push_pieces, start};
 use page_frame::{push_page_end, push_page_start};
@@ -14,7 +14,7 @@ use page_parts::{
     push_band, push_event_numbers, push_fault_tile, push_heading, push_keys, push_map_keys,
     push_name, push_not_drawn, push_share, push_span, push_tile, push_totals,
 };
-use run_charts::{ChartRun, is_missed, is_refused, outcome_of, push_chart, push_lanes};
+use run_charts::{ChartRun, is_missed, push_chart, push_lanes};
 use run_maps::push_map;
 use sentence_parts::{number, words};
 use std::alloc::{AllocError, Global};
@@ -145,7 +145,7 @@ fn refused_among(events: &[TaleEvent]) -> usize
 {
     let mut all = 0;
     for told in events {
-        all = count_if(is_refused(outcome_of(told)), all);
+        all = count_if(is_refused(told.answer), all);
     }
     all
 }

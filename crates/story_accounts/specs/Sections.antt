@@ -3,7 +3,6 @@ use Rattle.std.specs.Prelude.{ℕ, ◌+◌, ◌-◌, ◌==◌, ◌&&◌, ◌||�
 use Rattle.std.specs.Prelude.{Option, None, Some, if◌then◌else◌, decimal, nat_lt, nat_le}
 use Rattle.frame_words.specs.declared.gist.FrameTarget.{FrameTarget}
 use Rattle.line_events.specs.declared.event.Answer.{Answer}
-use Rattle.line_events.specs.declared.event.Answer.TheVariants as answers
 use Rattle.line_events.specs.Answers.{is_ok}
 use Rattle.line_script.specs.AnswerWords.{answer_word}
 use Rattle.line_tale.specs.declared.told.TaleEvent.{TaleEvent}
@@ -18,6 +17,7 @@ use Rattle.line_tale.specs.declared.lot.Fate.TheVariants as fates
 use Rattle.line_tale.specs.declared.verdict.Verdict.{Verdict}
 use Rattle.line_tale.specs.declared.verdict.Verdict.TheVariants as verdicts
 use Rattle.line_tale.specs.Tales.{made_by, numbered}
+use Rattle.line_tale.specs.Kinds.{is_for_another, is_refused}
 use Rattle.line_tale.specs.Verdicts.{is_good}
 use Rattle.sentence_parts.specs.declared.part.Part.TheVariants.{Words, Number}
 use Rattle.sentence_parts.specs.Parts.{parts_text}
@@ -133,10 +133,6 @@ good_among a [] = []
 good_among a (n ∷ ns) = number_if (came_well a n) n ++ good_among a ns
 
 -- # Why stories failed
-
-abbrev pub is_for_another : Answer → Bool
-is_for_another answers.NotForMe = true
-is_for_another _ = false
 
 abbrev pub refusal_word : Option TaleEvent → List ℕ
 refusal_word None = []
@@ -386,13 +382,9 @@ sections_from a (section ∷ rest) chosen = section_text a section chosen ++ sec
 
 -- # Refusals
 
--- whether an event was refused, and not since its frame is for another node
-abbrev pub is_refusal : TaleEvent → Bool
-is_refusal e = not (is_ok e.answer) && not (is_for_another e.answer)
-
 abbrev pub refused_from : ℕ → List TaleEvent → List ℕ
 refused_from place [] = []
-refused_from place (e ∷ es) = number_if (is_refusal e) (place + 1) ++ refused_from (place + 1) es
+refused_from place (e ∷ es) = number_if (is_refused e.answer) (place + 1) ++ refused_from (place + 1) es
 
 abbrev pub answers_from : RunAccount → List ℕ → List WordGroup → List WordGroup
 answers_from a [] groups = groups

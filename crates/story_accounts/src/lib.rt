@@ -33,5 +33,4 @@ pub use groups::Group;
 pub use index::Index;
 pub use marks::Marks;
 pub use numbers::numbered;
-pub use reasons::is_for_another;
 pub use section::{Chosen, SECTIONS, Section, section_title};

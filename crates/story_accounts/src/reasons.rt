@@ -11,7 +11,7 @@ use frame_words::FrameTarget;
 use itoa::Buffer;
 use line_events::Answer;
 use line_script::answer_word;
-use line_tale::{Fate, Kept, Story, Verdict, is_good};
+use line_tale::{Fate, Kept, Story, Verdict, is_for_another, is_good};
 use sentence_parts::decimal_width;
 use std::alloc::AllocError;
 
@@ -30,16 +30,6 @@ fn is_no(good: Option<bool>) -> bool
     match good {
         None => false,
         Some(good) => !good,
-    }
-}
-
-/// Whether a frame is for another node.
-pub fn is_for_another(answer: Answer) -> bool
-    ensures { result ≡ sections.is_for_another answer }
-{
-    match answer {
-        Answer::NotForMe => true,
-        _ => false,
     }
 }
 

@@ -5,14 +5,14 @@ ghost use Rattle.story_accounts.specs.Sections as sections;
 use crate::account::Account;
 use crate::groups::Group;
 use crate::numbers::numbered;
-use crate::reasons::{is_for_another, push_if};
+use crate::reasons::push_if;
 use crate::section::{
     Chosen, Section, good_word, is_brief, is_broadcasts, section_kind, section_title,
 };
 use crate::titles::push_capital;
 use line_events::Answer;
 use line_script::answer_word;
-use line_tale::{Lot, Story, StoryKind, TaleEvent, made_by};
+use line_tale::{Lot, Story, StoryKind, TaleEvent, is_for_another, made_by};
 use sentence_parts::{number, push_parts, sentence, words};
 use std::alloc::{AllocError, Global};
 

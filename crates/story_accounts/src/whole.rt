@@ -6,21 +6,14 @@ ghost use Rattle.story_accounts.specs.Indexes.{number_or_0};
 use crate::account::Account;
 use crate::fates::is_mute;
 use crate::groups::{Group, join, largest_first};
-use crate::reasons::{is_for_another, push_if, push_padded, push_widened};
+use crate::reasons::{push_if, push_padded, push_widened};
 use crate::section::{Chosen, SECTIONS, is_part};
-use line_tale::TaleEvent;
+use line_tale::{TaleEvent, is_refused};
 use sentence_parts::{number, push_parts, words};
 use std::alloc::{AllocError, Global};
 
 /// So many flights that never came are named.
 const MOST: usize = 20;
-
-// Whether an event was refused, and not since its frame is for another node.
-fn is_refusal(told: &TaleEvent) -> bool
-    ensures { result ≡ sections.is_refusal told.now }
-{
-    !told.answer.is_ok() && !is_for_another(told.answer)
-}
 
 fn is_maker(flight: usize, told: &TaleEvent) -> bool
     ensures { result ≡ sections.is_maker flight told.now }
@@ -85,7 +78,7 @@ impl<'a> Account<'a> {
     {
         let mut list = Vec::new(self.alloc);
         for (i, told) in self.tale.events.iter().enumerate() {
-            push_if(&mut list, is_refusal(told), i + 1)?;
+            push_if(&mut list, is_refused(told.answer), i + 1)?;
         }
         Ok(list)
     }
