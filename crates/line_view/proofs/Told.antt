@@ -12,7 +12,8 @@ use Rattle.event_sentences.specs.Texts.{event_text}
 use Rattle.event_sentences.specs.Watches.{Watched}
 use Rattle.event_sentences.proofs.TrueOnce.{ups_are_true}
 use Rattle.line_view.specs.Recordings.{Recording, recorded}
-use Rattle.line_view.specs.Sentences.{Sentences, ended_at, ending, event_told, heard_by, is_at, learned, look_around, look_at, scene, shown_by, with_event, with_last, with_looks, with_sentence, worded}
+use Rattle.line_view.specs.Sentences.{Sentences, ended_at, ending, event_told, heard_by, is_at, learned, look_around, look_at}
+use Rattle.line_view.specs.Sentences.{scene, shown_by, with_event, with_last, with_looks, with_sentence, worded}
 use Rattle.line_view.specs.Truths.{UpsAreTold}
 use Rattle.line_view.proofs.Recorded.{last_recorded}
 
@@ -34,8 +35,9 @@ heard_so : (number : ℕ) (e : TaleEvent) (heard : Heard) (r : Recording) (s : S
 heard_so number e heard r s is =
     ap
     (λ (b : Bool).
-      (if b && not (is_at heard.to (actor_of e.act)) then ending [] number e r s else worded number e (Some heard) (look_around number e.act r.world s.watches) r s)
-          .sentences)
+      (if b && not (is_at heard.to (actor_of e.act))
+      then ending [] number e r s
+      else worded number e (Some heard) (look_around number e.act r.world s.watches) r s).sentences)
     is
         ∙ worded_so number e heard r s
 
