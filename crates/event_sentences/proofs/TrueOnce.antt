@@ -42,7 +42,7 @@ said_so s heard came up =
     (subst (λ (a : Answer). (if is_ok a then taken_text a heard s else refused_frame_text a heard s) ≡ deed_text s.node (handed_up s.told.up)) (sym up) refl)
 
 pub ups_are_true : UpsAreTrue
-ups_are_true x line clock s heard told came up =
+ups_are_true x line clock same s heard told came up =
     let note : s.told.up ≡ note_of x.trace.happenings.up = ap (λ (e : TaleEvent). e.up) told in (
       handed_up s.told.up,
       subst (λ (u : Option ℕ). IsTrueOf x (handed_up u)) (sym note) (by_note x x.trace.happenings.up up refl),

@@ -34,5 +34,5 @@ SaysOne = (x : Entry) (a b : Deed) → IsTrueOf x a → IsTrueOf x b → a ≡ b
 
 -- where a datagram was handed up, the sentence of the event is that of a claim which is true of it
 abbrev pub UpsAreTrue : Type 0
-UpsAreTrue = (x : Entry) (line clock : ℕ) (s : Scene) (heard : Heard) → s.told ≡ event_told line x.event x.trace.happenings clock
+UpsAreTrue = (x : Entry) (line clock same : ℕ) (s : Scene) (heard : Heard) → s.told ≡ event_told line x.event x.trace.happenings clock same
     → s.heard ≡ Some heard → answer_of x ≡ answers.Up → (deed : Deed) × IsTrueOf x deed × (event_text s ≡ deed_text s.node deed)
