@@ -19,9 +19,9 @@ use Rattle.line_script.specs.declared.report.Totals.{Totals}
 use Rattle.line_capture.specs.Captures.{Run, blocks}
 use Rattle.line_view.specs.declared.capture.Wanted.TheVariants as wants
 use Rattle.line_view.specs.Capturing.{Capturing, injected_with, keys_with, octets_of, output_by, rules, totals_of, with_key}
-use Rattle.line_view.specs.Recordings.{Recording, Recorded, recorded}
+use Rattle.line_view.specs.Recordings.{Recording, Recorded, recorded, told_of}
 use Rattle.line_view.specs.RunMachines.{Stepped}
-use Rattle.line_view.proofs.Recorded.{above_zero, last_recorded, told_of}
+use Rattle.line_view.proofs.Recorded.{above_zero, last_recorded}
 
 -- # Lists
 

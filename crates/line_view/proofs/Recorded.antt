@@ -13,11 +13,11 @@ use Rattle.line_rules.specs.Worlds.{World}
 use Rattle.line_rules.specs.Further.{line_step}
 use Rattle.line_rules.specs.Runs.{Entry}
 use Rattle.line_tale.specs.declared.told.TaleEvent.{TaleEvent}
-use Rattle.line_tale.specs.Tales.{event_told, numbered}
+use Rattle.line_tale.specs.Tales.{numbered}
 use Rattle.line_world.specs.Steps.{Takes}
 use Rattle.script_runs.specs.Takings.{event_taking}
 use Rattle.line_view.specs.Recordings.{Recording, Recorded, event_recorded, flight_recorded, flights_recorded, in_world, recorded}
-use Rattle.line_view.specs.Recordings.{same_flight, with_octets}
+use Rattle.line_view.specs.Recordings.{told_of, with_octets}
 
 -- an event was taken and recorded
 pub event_kept : (row before : ℕ) (r0 r1 : Recording) (next : World) (e : Event) (h : Happenings) → r0.world.events < MAX_EVENTS
@@ -71,10 +71,6 @@ flight_told number r = with_told _ _ _ _ _ r
 flights_told : (before n : ℕ) (r : Recording) → (flights_recorded before n r).events ≡ r.events
 flights_told before zero r = refl
 flights_told before (suc n) r = flight_told _ (flights_recorded before n r) ∙ flights_told before n r
-
-abbrev pub told_of : ℕ → Entry → Recording → TaleEvent
-told_of row entry r =
-    event_told row entry.event entry.trace.happenings entry.after.clock (same_flight entry.event (in_world entry.after r))
 
 recorded_told : (row : ℕ) (entry : Entry) (r : Recording) → (recorded row entry r).events ≡ r.events ++ (told_of row entry r ∷ [])
 unfolding event_recorded

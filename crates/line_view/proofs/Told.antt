@@ -5,13 +5,12 @@ use Rattle.line_events.specs.declared.event.Event.{Event}
 use Rattle.line_rules.specs.Worlds.{node_at}
 use Rattle.line_tale.specs.declared.told.TaleEvent.{TaleEvent}
 use Rattle.line_tale.specs.Kinds.{actor_of, is_for_another}
-use Rattle.line_tale.specs.Tales.{event_told as event_of}
 use Rattle.event_sentences.specs.declared.heard.Heard.{Heard}
 use Rattle.event_sentences.specs.Scenes.{Scene}
 use Rattle.event_sentences.specs.Texts.{event_text}
 use Rattle.event_sentences.specs.Watches.{Watched}
 use Rattle.event_sentences.proofs.TrueOnce.{ups_are_true}
-use Rattle.line_view.specs.Recordings.{Recording, recorded}
+use Rattle.line_view.specs.Recordings.{Recording, in_world, recorded, same_flight, told_of}
 use Rattle.line_view.specs.Sentences.{Sentences, ended_at, ending, event_told, heard_by, is_at, learned, look_around, look_at}
 use Rattle.line_view.specs.Sentences.{scene, shown_by, with_event, with_last, with_looks, with_sentence, worded}
 use Rattle.line_view.specs.Truths.{UpsAreTold}
@@ -22,7 +21,7 @@ scene_at : ℕ → TaleEvent → Heard → Recording → Sentences → Scene
 scene_at number e heard r s =
     let watches : List Watched = look_around number e.act r.world s.watches in
     scene e (Some heard) (shown_by (node_at r.world (actor_of e.act))) (ended_at r.world (actor_of e.act) watches) r
-    (with_looks (look_at number r.world (actor_of e.act) watches) s)
+    (with_looks e r.world (look_at number r.world (actor_of e.act) watches) s)
 
 worded_so : (number : ℕ) (e : TaleEvent) (heard : Heard) (r : Recording) (s : Sentences)
     → (worded number e (Some heard) (look_around number e.act r.world s.watches) r s).sentences
@@ -36,7 +35,7 @@ heard_so number e heard r s is =
     ap
     (λ (b : Bool).
       (if b && not (is_at heard.to (actor_of e.act))
-      then ending [] number e r s
+      then ending [] number e s
       else worded number e (Some heard) (look_around number e.act r.world s.watches) r s).sentences)
     is
         ∙ worded_so number e heard r s
@@ -53,9 +52,10 @@ pub ups_are_told : UpsAreTold
 unfolding with_sentence
 ups_are_told row x r s heard up came =
     let run : Recording = recorded row x r in
-    let e : TaleEvent = event_of row x.event x.trace.happenings x.after.clock in
+    let e : TaleEvent = told_of row x r in
     let place : ℕ = length run.events in
-    let said = ups_are_true x row x.after.clock (scene_at place e heard run (learned x.event e s)) heard refl refl up in
+    let said = ups_are_true x row x.after.clock (same_flight x.event (in_world x.after r)) (scene_at place e heard run (learned x.event e s)) heard refl refl
+        up in
     (
       said.0,
       said.1,

@@ -126,6 +126,11 @@ event_recorded row event happenings before r =
 abbrev pub in_world : World → Recording → Recording
 in_world w r = record r { world = w }
 
+-- what is told of an entry
+abbrev pub told_of : ℕ → Entry → Recording → TaleEvent
+told_of row entry r =
+    event_told row entry.event entry.trace.happenings entry.after.clock (same_flight entry.event (in_world entry.after r))
+
 -- with an entry of a script
 abbrev pub recorded : ℕ → Entry → Recording → Recording
 recorded row entry r =

@@ -200,9 +200,9 @@ impl Recorder {
     ) -> Result<(), AllocError>
         ensures { OnOk result (self.new ≡ recordings.event_recorded row event.now happenings.now before self.old) }
     {
+        let same = self.same_flight(event);
         push_eui(&mut self.euis, made_eui(event))?;
         let clock = self.world.clock();
-        let same = self.same_flight(event);
         self.tale.push_event(row, event, happenings, clock, same)?;
         let count = self.world.counts().flights.saturating_sub(before);
         self.push_flights(before, count)
