@@ -12,7 +12,7 @@ use Rattle.line_stories.specs.Stories.{events_seen, ended, stories_of, ready_own
 use Rattle.line_stories.specs.Laws.{EventsAreOwned}
 
 -- how many events were seen
-abbrev seen : Stories → ℕ
+abbrev pub seen : Stories → ℕ
 seen s = length s.owners + length s.ready
 
 ready_count : (joined : Option ℕ) (story line : ℕ) (ready : List ℕ) → length (ready_owners joined story line ready) ≡ length ready
@@ -28,7 +28,7 @@ settled_by_count stories line act first s =
     let story = number_at (place_of act stories s.lots) stories in
     count_more s.owners (ready_owners (joins act) story line s.ready) s.ready story (ready_count (joins act) story line s.ready)
 
-settled_count : (act : Act) (s : Stories) → seen (settled act s) ≡ seen s + 1
+pub settled_count : (act : Act) (s : Stories) → seen (settled act s) ≡ seen s + 1
 unfolding settled
 settled_count act s =
     settled_by_count (with_line (unready (joins act) s.ready) (length s.owners + 1) s.stories) (line_number (unready (joins act) s.ready) s.stories)
@@ -66,12 +66,12 @@ flights_count [] s = refl
 flights_count (f ∷ fs) s = flights_count fs (flight_seen f s) ∙ flight_count f s
 
 -- an event and its flights
-one_more : (e : TaleEvent) (flights : List TaleFlight) (s : Stories) → seen (told_seen e flights s) ≡ seen s + 1
+pub one_more : (e : TaleEvent) (flights : List TaleFlight) (s : Stories) → seen (told_seen e flights s) ≡ seen s + 1
 unfolding told_seen
 one_more e flights s =
     flights_count (made_by e flights) (announced e flights (event_seen e s)) ∙ announced_count e flights (event_seen e s) ∙ event_count e s
 
-events_count : (flights : List TaleFlight) (es : List TaleEvent) (s : Stories) → seen (events_seen flights es s) ≡ seen s + length es
+pub events_count : (flights : List TaleFlight) (es : List TaleEvent) (s : Stories) → seen (events_seen flights es s) ≡ seen s + length es
 events_count flights [] s = omega arith
 events_count flights (e ∷ es) s =
     let rest = events_count flights es (told_seen e flights s) in
