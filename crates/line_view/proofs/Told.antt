@@ -34,11 +34,11 @@ heard_so : (number : ℕ) (e : TaleEvent) (heard : Heard) (r : Recording) (s : S
 heard_so number e heard r s is =
     ap
     (λ (b : Bool).
-      (if b && not (is_at heard.to (actor_of e.act))
-      then ending [] number e s
-      else worded number e (Some heard) (look_around number e.act r.world s.watches) r s).sentences)
+    (if b && not (is_at heard.to (actor_of e.act))
+    then ending [] number e s
+    else worded number e (Some heard) (look_around number e.act r.world s.watches) r s).sentences)
     is
-        ∙ worded_so number e heard r s
+    ∙ worded_so number e heard r s
 
 told_so : (number : ℕ) (event : Event) (e : TaleEvent) (heard : Heard) (r : Recording) (s : Sentences) → is_for_another e.answer ≡ false
     → heard_by event r (learned event e s) ≡ Some heard
@@ -55,8 +55,7 @@ ups_are_told row x r s heard up came =
     let e : TaleEvent = told_of row x r in
     let place : ℕ = length run.events in
     let said = ups_are_true x row x.after.clock (same_flight x.event (in_world x.after r)) (scene_at place e heard run (learned x.event e s)) heard refl refl
-        up in
-    (
+    up in (
       said.0,
       said.1,
       ap (λ (o : Option TaleEvent). (with_last o x.event run s).sentences) (last_recorded row x r)
