@@ -1,5 +1,5 @@
 -- The story of a datagram says at which event that came first.
-use Rattle.std.proofs.Common.{◌≡◌, ◌≢◌, ℕ, zero, suc, ◌+◌, ◌-◌, ◌≤◌, ◌<◌, ◌==◌, Bool, true, false, not, ◌&&◌, List, [], ◌∷◌, ◌++◌, length, Option, Some, None}
+use Rattle.std.proofs.Common.{◌≡◌, ◌≢◌, ℕ, zero, suc, ◌+◌, ◌-◌, ◌≤◌, ◌<◌, ◌==◌, Bool, true, false, not, List, [], ◌∷◌, ◌++◌, length, Option, Some, None}
 use Rattle.std.proofs.Common.{refl, ap, sym, ◌∙◌, subst, arith, length-append, ◌⊎◌, inl, inr, ⊎_elim}
 use Rattle.std.specs.Prelude.{All, is_some, slice_get, slice_set, if◌then◌else◌}
 use Rattle.std.specs.Option.{option_and_then}
@@ -597,7 +597,8 @@ recorded_so e n story s = record { sent = refl; stories = refl }
 recorded_length : (e : TaleEvent) (n story : ℕ) (s : Stories) → length (recorded e n story s).stories ≡ length s.stories
 recorded_length e n story s =
     ap length (recorded_so e n story s).stories
-        ∙ up_length e.up n (sent_with (sends e.act e.answer) story s.sent) (changed_at story (marked n e) s.stories) ∙ changed_length (marked n e) story s.stories
+        ∙ up_length e.up n (sent_with (sends e.act e.answer) story s.sent) (changed_at story (marked n e) s.stories)
+        ∙ changed_length (marked n e) story s.stories
 
 settled_own : (e : TaleEvent) (s : Stories) → AreOwnIn s
     → AreOwn (sent_with (sends e.act e.answer) (last_owner (settled e.act s).owners) (settled e.act s).sent) (length (settled e.act s).stories)
@@ -868,7 +869,8 @@ followed_from e after flights s only is own =
 sent_sends : (e : TaleEvent) (from to octets : ℕ) → e.act ≡ acts.Send from to octets → (e.answer ≡ answers.Sent) ⊎ (e.answer ≡ answers.Waiting)
     → sends e.act e.answer ≡ true
 sent_sends e from to octets act is =
-    ap (λ (a : Act). sends a e.answer) act ∙ ⊎_elim (λ (one : e.answer ≡ answers.Sent). ap is_sent one) (λ (other : e.answer ≡ answers.Waiting). ap is_sent other) is
+    ap (λ (a : Act). sends a e.answer) act
+        ∙ ⊎_elim (λ (one : e.answer ≡ answers.Sent). ap is_sent one) (λ (other : e.answer ≡ answers.Waiting). ap is_sent other) is
 
 sent_begun : (e : TaleEvent) → (e.answer ≡ answers.Sent) ⊎ (e.answer ≡ answers.Waiting) → is_begun e.answer ≡ true
 sent_begun e is = ⊎_elim (λ (one : e.answer ≡ answers.Sent). ap is_begun one) (λ (other : e.answer ≡ answers.Waiting). ap is_begun other) is

@@ -12,3 +12,4 @@ pub mod PageNests
 pub mod Paged
 pub mod Recorded
 pub mod StatusNames
+mod DatagramVerdicts

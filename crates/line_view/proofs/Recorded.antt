@@ -72,7 +72,7 @@ flights_told : (before n : ℕ) (r : Recording) → (flights_recorded before n r
 flights_told before zero r = refl
 flights_told before (suc n) r = flight_told _ (flights_recorded before n r) ∙ flights_told before n r
 
-recorded_told : (row : ℕ) (entry : Entry) (r : Recording) → (recorded row entry r).events ≡ r.events ++ (told_of row entry r ∷ [])
+pub recorded_told : (row : ℕ) (entry : Entry) (r : Recording) → (recorded row entry r).events ≡ r.events ++ (told_of row entry r ∷ [])
 unfolding event_recorded
 recorded_told row entry r = flights_told (length r.world.flights) _ _
 
