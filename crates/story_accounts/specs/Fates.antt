@@ -78,9 +78,8 @@ refused_by_all_text a number flight events =
     ∷ Words (codes ") was refused by all that heard it: ") ∷ [])
     ++ hearers_from a 0 events
 
--- a flight to all that nobody took
+-- a flight to all that nobody took: the first three nodes that heard it stand for all
 abbrev pub unheard_text : RunAccount → ℕ → TaleFlight → Fate → List ℕ
--- the first three nodes that heard it stand for all
 unheard_text a number flight fate =
     if is_mute fate then unreached_text number flight fate else refused_by_all_text a number flight (take 3 (hearings_at a.index number))
 

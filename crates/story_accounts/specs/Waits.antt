@@ -127,13 +127,16 @@ meters_word count = if count == 1 then codes "meter " else codes "meters "
 unfoldable pub meters_text : List ℕ → List ℕ
 meters_text meters = meters_word (length meters) ++ numbers_from 0 (length meters) meters
 
-abbrev pub other_meters : List ℕ → List ℕ
+unfoldable pub other_meters : List ℕ → List ℕ
 other_meters meters = if length meters == 0 then [] else codes " and " ++ meters_text meters
+
+unfoldable pub coordinator_and : List ℕ → List ℕ
+coordinator_and meters = codes "the coordinator" ++ other_meters meters
 
 -- the names of nodes, the coordinator first
 unfoldable pub nodes_text : List ℕ → List ℕ
 nodes_text [] = []
-nodes_text (first ∷ rest) = if first == 0 then codes "the coordinator" ++ other_meters rest else meters_text (first ∷ rest)
+nodes_text (first ∷ rest) = if first == 0 then coordinator_and rest else meters_text (first ∷ rest)
 
 abbrev pub reached_end : Bool → List ℕ
 reached_end true = codes ", and no other node took it"

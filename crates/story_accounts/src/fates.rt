@@ -134,6 +134,7 @@ impl<'a> Account<'a> {
         ])
     }
 
+    /// A flight to all that each node refused which heard it, with the nodes that heard it at these events.
     #[tactic(auto, unfolding(crate::specs::Fates::refused_by_all_text))]
     pub fn refused_by_all_text(
         &self,
@@ -170,8 +171,8 @@ impl<'a> Account<'a> {
         self.refused_by_all_text(flight, told, &hearings[..hearings.len().min(3)])
     }
 
-    #[tactic(auto, unfolding(crate::specs::Fates::way_text))]
     /// A flight with its number, from whom to whom.
+    #[tactic(auto, unfolding(crate::specs::Fates::way_text))]
     pub fn way_text(&self, flight: usize, told: &TaleFlight) -> Result<String, AllocError>
         ensures { IfOk result (λ text. string_bytes text ≡ spec_fates.way_text self.now flight told.now) }
     {

@@ -170,6 +170,7 @@ fn push_meters(text: &mut String, alloc: Global, meters: &[usize]) -> Result<(),
     push_numbers(text, alloc, meters)
 }
 
+#[tactic(auto, unfolding(crate::specs::Waits::other_meters))]
 fn push_other_meters(text: &mut String, alloc: Global, meters: &[usize]) -> Result<(), AllocError>
     ensures { OnOk result (string_bytes text.new ≡ string_bytes text.old ++ waits.other_meters meters.now) }
 {
@@ -178,6 +179,18 @@ fn push_other_meters(text: &mut String, alloc: Global, meters: &[usize]) -> Resu
     }
     text.push_str(" and ")?;
     push_meters(text, alloc, meters)
+}
+
+#[tactic(auto, unfolding(crate::specs::Waits::coordinator_and))]
+fn push_coordinator_and(
+    text: &mut String,
+    alloc: Global,
+    meters: &[usize],
+) -> Result<(), AllocError>
+    ensures { OnOk result (string_bytes text.new ≡ string_bytes text.old ++ waits.coordinator_and meters.now) }
+{
+    text.push_str("the coordinator")?;
+    push_other_meters(text, alloc, meters)
 }
 
 // The names of nodes, the coordinator first.
@@ -189,8 +202,7 @@ fn push_nodes(text: &mut String, alloc: Global, nodes: &[usize]) -> Result<(), A
         return Ok(());
     };
     if *first == 0 {
-        text.push_str("the coordinator")?;
-        return push_other_meters(text, alloc, rest);
+        return push_coordinator_and(text, alloc, rest);
     }
     push_meters(text, alloc, nodes)
 }
