@@ -17,7 +17,7 @@ use Rattle.line_view.specs.Truths.{UpsAreTold}
 use Rattle.line_view.proofs.Recorded.{last_recorded}
 
 -- what the sentence of an event goes by that has words
-scene_at : ℕ → TaleEvent → Heard → Recording → Sentences → Scene
+abbrev scene_at : ℕ → TaleEvent → Heard → Recording → Sentences → Scene
 scene_at number e heard r s =
     let watches : List Watched = look_around number e.act r.world s.watches in
     scene e (Some heard) (shown_by (node_at r.world (actor_of e.act))) (ended_at r.world (actor_of e.act) watches) r
