@@ -60,7 +60,7 @@ number_place {A} xs n =
 change_place : {A : Type 0} (n : ℕ) (f : A → A) (xs : List A) → changed_at (suc n) f xs ≡ changed_place (slice_get xs n) n f xs
 change_place {A} n f xs =
     ap (λ (b : Bool). if b then xs else changed_place (slice_get xs (suc n - 1)) (suc n - 1) f xs) (not_zero n)
-        ∙ ap (λ (k : ℕ). changed_place (slice_get xs k) k f xs) (omega arith)
+    ∙ ap (λ (k : ℕ). changed_place (slice_get xs k) k f xs) (omega arith)
 
 place_of_face : (xs : List Story) (n : ℕ) → face_at (suc n) xs ≡ option_and_then face (slice_get xs n)
 place_of_face xs n = ap (option_and_then face) (number_place xs n)
@@ -98,7 +98,7 @@ changed_here : (f : Story → Story) (m : ℕ) (xs : List Story) (x : Story) →
 changed_here f zero xs x is = absurd (none-some x is)
 changed_here f (suc m) xs x is =
     ap (λ (ys : List Story). numbered ys (suc m)) (change_place m f xs) ∙ number_place (changed_place (slice_get xs m) m f xs) m
-        ∙ place_here f xs m x (sym (number_place xs m) ∙ is)
+    ∙ place_here f xs m x (sym (number_place xs m) ∙ is)
 
 place_other : (f : Story → Story) (xs : List Story) (m n : ℕ) → m ≢ n → slice_get (changed_place (slice_get xs m) m f xs) n ≡ slice_get xs n
 place_other f [] m n other = refl
@@ -113,7 +113,7 @@ changed_other f zero n xs other = refl
 changed_other f (suc m) zero xs other = refl
 changed_other f (suc m) (suc n) xs other =
     ap (face_at (suc n)) (change_place m f xs) ∙ place_of_face (changed_place (slice_get xs m) m f xs) n
-        ∙ ap (option_and_then face) (place_other f xs m n (λ k. other (ap suc k))) ∙ sym (place_of_face xs n)
+    ∙ ap (option_and_then face) (place_other f xs m n (λ k. other (ap suc k))) ∙ sym (place_of_face xs n)
 
 place_length : (f : Story → Story) (o : Option Story) (m : ℕ) (xs : List Story) → length (changed_place o m f xs) ≡ length xs
 place_length f None m xs = refl
@@ -349,7 +349,7 @@ pushed_count xs y = omega (arith, length-append xs (y ∷ []))
 pushed_face : (xs : List Story) (y : Story) → face_at (length (xs ++ (y ∷ []))) (xs ++ (y ∷ [])) ≡ face y
 pushed_face xs y =
     ap (λ (n : ℕ). face_at n (xs ++ (y ∷ []))) (pushed_count xs y) ∙ place_of_face (xs ++ (y ∷ [])) (length xs)
-        ∙ ap (option_and_then face) (slice_get-push xs y)
+    ∙ ap (option_and_then face) (slice_get-push xs y)
 
 -- the story of the event that was settled last, where it begins that of a datagram
 record IsBegun (old : Stories) (event : ℕ) (s : Stories) : Type 0 where
@@ -376,16 +376,16 @@ begun_so act s is =
     let new : place ≡ New kinds.Datagram = ap (λ (o : Option StoryKind). place_by o act lined s.lots) is in
     let story = new_story kinds.Datagram (next_event s) (person_of act) in
     let count : length (with_place place (next_event s) (person_of act) lined) ≡ suc (length lined) =
-        ap (λ (p : Place). length (with_place p (next_event s) (person_of act) lined)) new ∙ pushed_count lined story in
+    ap (λ (p : Place). length (with_place p (next_event s) (person_of act) lined)) new ∙ pushed_count lined story in
     record {
       owner =
           last_pushed (s.owners ++ ready_owners (joins act) (number_at place lined)
-              (line_number (unready (joins act) s.ready) s.stories) s.ready) (number_at place lined)
-              ∙ ap (λ (p : Place). number_at p lined) new ∙ sym (count ∙ omega arith);
+          (line_number (unready (joins act) s.ready) s.stories) s.ready) (number_at place lined)
+          ∙ ap (λ (p : Place). number_at p lined) new ∙ sym (count ∙ omega arith);
       longer = omega (arith, count, line_longer (unready (joins act) s.ready) (length s.owners + 1) s.stories);
       told =
           subst (λ (p : Place). face_at (length (with_place p (next_event s) (person_of act) lined)) (with_place p (next_event s) (person_of act) lined)
-              ≡ Some (next_event s, None)) (sym new) (pushed_face lined story);
+          ≡ Some (next_event s, None)) (sym new) (pushed_face lined story);
     }
 
 -- # The list of sends with one more
@@ -597,8 +597,8 @@ recorded_so e n story s = record { sent = refl; stories = refl }
 recorded_length : (e : TaleEvent) (n story : ℕ) (s : Stories) → length (recorded e n story s).stories ≡ length s.stories
 recorded_length e n story s =
     ap length (recorded_so e n story s).stories
-        ∙ up_length e.up n (sent_with (sends e.act e.answer) story s.sent) (changed_at story (marked n e) s.stories)
-        ∙ changed_length (marked n e) story s.stories
+    ∙ up_length e.up n (sent_with (sends e.act e.answer) story s.sent) (changed_at story (marked n e) s.stories)
+    ∙ changed_length (marked n e) story s.stories
 
 settled_own : (e : TaleEvent) (s : Stories) → AreOwnIn s
     → AreOwn (sent_with (sends e.act e.answer) (last_owner (settled e.act s).owners) (settled e.act s).sent) (length (settled e.act s).stories)
@@ -673,7 +673,7 @@ event_follows e send event at_last s only own f = by_ready (readies e.act) refl
     by_ready : (o : Option ℕ) → readies e.act ≡ o → FollowsIn send event (or_first at_last (is_of e.up send) (next_event s)) (event_seen e s)
     by_ready (Some node) is =
         let quiet : or_first at_last (is_of e.up send) (next_event s) ≡ at_last =
-            ap (λ (u : Option ℕ). or_first at_last (is_of u send) (next_event s)) (only (ap is_some is)) ∙ same_first at_last (next_event s) in
+        ap (λ (u : Option ℕ). or_first at_last (is_of u send) (next_event s)) (only (ap is_some is)) ∙ same_first at_last (next_event s) in
         subst (λ (c : Option ℕ). FollowsIn send event c (event_by (readies e.act) e s)) (sym quiet)
         (subst (λ (o : Option ℕ). FollowsIn send event at_last (event_by o e s)) (sym is) (readied node))
     by_ready None is =
@@ -695,8 +695,8 @@ event_begins e s own is =
       number = length t.stories;
       owner =
           ap (λ (b : Bool). numbered (sent_with b (last_owner t.owners) t.sent) (length s.sent + 1)) is
-              ∙ ap (λ (xs : List ℕ). numbered (xs ++ (last_owner t.owners ∷ [])) (length s.sent + 1)) on.sent
-              ∙ last_number s.sent (last_owner t.owners) ∙ ap Some begun.owner;
+          ∙ ap (λ (xs : List ℕ). numbered (xs ++ (last_owner t.owners ∷ [])) (length s.sent + 1)) on.sent
+          ∙ last_number s.sent (last_owner t.owners) ∙ ap Some begun.owner;
       told = begun.told;
     })
 
@@ -740,11 +740,11 @@ events_follow flights (e ∷ es) send event at_last s only own f =
     let c = or_first at_last (is_of e.up send) (next_event s) in
     let next : next_event t ≡ next_event s + 1 = omega (arith, one_more e flights s) in
     let rest =
-        events_follow flights es send event c t (all_rest e es only) (told_own e flights s own)
-        (goes_follow send event c (event_seen e s) t (told_on e flights s) (event_follows e send event at_last s (all_first e es only) own f)) in
+    events_follow flights es send event c t (all_rest e es only) (told_own e flights s own)
+    (goes_follow send event c (event_seen e s) t (told_on e flights s) (event_follows e send event at_last s (all_first e es only) own f)) in
     let numbers : or_else c (first_up send (next_event t) es) ≡ or_else at_last (first_up send (next_event s) (e ∷ es)) =
-        ap (λ (k : ℕ). or_else c (first_up send k es)) next
-        ∙ first_then at_last (is_of e.up send) (next_event s) (first_up send (next_event s + 1) es) in
+    ap (λ (k : ℕ). or_else c (first_up send k es)) next
+    ∙ first_then at_last (is_of e.up send) (next_event s) (first_up send (next_event s + 1) es) in
     subst (λ (o : Option ℕ). FollowsIn send event o (events_seen flights es t)) numbers rest
 
 events_through : (flights : List TaleFlight) (before after : List TaleEvent) (s : Stories)
@@ -772,8 +772,8 @@ one_sent e flights s = ap length (told_on e flights s).sent ∙ by_ready (readie
         let n = length t.owners in
         let story = last_owner t.owners in
         ap length ((kept_on e n story (recorded e n story t)).sent ∙ (recorded_so e n story t).sent)
-            ∙ with_sent (sends e.act e.answer) story t.sent
-            ∙ ap (λ (xs : List ℕ). length xs + (if sends e.act e.answer then 1 else 0)) (settled_so e.act s).sent
+        ∙ with_sent (sends e.act e.answer) story t.sent
+        ∙ ap (λ (xs : List ℕ). length xs + (if sends e.act e.answer then 1 else 0)) (settled_so e.act s).sent
 
     by_ready : (o : Option ℕ) → readies e.act ≡ o → length (event_seen e s).sent ≡ length s.sent + (if sends e.act e.answer then 1 else 0)
     by_ready (Some node) is =
@@ -811,8 +811,8 @@ begun_verdict : (x : Story) (ends : Ends) (e : TaleEvent) (at_last : Option ℕ)
     → verdict_of x ends e ≡ reached_or at_last (unreached_datagram ends)
 begun_verdict x ends e at_last begun kind reached =
     ap (λ (k : StoryKind). verdict_by k x ends e) kind
-        ∙ ap (λ (b : Bool). if not b then verdicts.NotBegun else reached_or x.reached (unreached_datagram ends)) begun
-        ∙ ap (λ (o : Option ℕ). reached_or o (unreached_datagram ends)) reached
+    ∙ ap (λ (b : Bool). if not b then verdicts.NotBegun else reached_or x.reached (unreached_datagram ends)) begun
+    ∙ ap (λ (o : Option ℕ). reached_or o (unreached_datagram ends)) reached
 
 -- a verdict of another kind is not that it came
 came_at : Verdict → Option ℕ
@@ -838,17 +838,17 @@ story_so : (send event : ℕ) (at_last : Option ℕ) (e : TaleEvent) (s : Storie
 story_so send event at_last e s begun f =
     option_and_then_some face (numbered s.stories f.number) (event, at_last) f.told
     (λ x there faced.
-        let parts = face_parts x.kind x.first event x.reached at_last faced in
-        record {
-          number = f.number;
-          story = x;
-          sent = f.owner;
-          told = there;
-          kind = parts.0;
-          first = parts.1;
-          came = λ n is ends. begun_verdict x ends e (Some n) begun parts.0 (parts.2 ∙ is);
-          never = λ is ends n. never_reached x ends e n (begun_verdict x ends e None begun parts.0 (parts.2 ∙ is));
-        })
+    let parts = face_parts x.kind x.first event x.reached at_last faced in
+    record {
+      number = f.number;
+      story = x;
+      sent = f.owner;
+      told = there;
+      kind = parts.0;
+      first = parts.1;
+      came = λ n is ends. begun_verdict x ends e (Some n) begun parts.0 (parts.2 ∙ is);
+      never = λ is ends n. never_reached x ends e n (begun_verdict x ends e None begun parts.0 (parts.2 ∙ is));
+    })
 
 followed_from : (e : TaleEvent) (after : List TaleEvent) (flights : List TaleFlight) (s : Stories) → All ReadiesOnly (e ∷ after)
     → sends e.act e.answer ≡ true → AreOwnIn s
@@ -860,17 +860,17 @@ followed_from e after flights s only is own =
     let c = or_first None (is_of e.up send) event in
     let next : next_event t ≡ event + 1 = omega (arith, one_more e flights s) in
     let rest =
-        events_follow flights after send event c t (all_rest e after only) (told_own e flights s own)
-        (goes_follow send event c (event_seen e s) t (told_on e flights s) (event_begins e s own is)) in
+    events_follow flights after send event c t (all_rest e after only) (told_own e flights s own)
+    (goes_follow send event c (event_seen e s) t (told_on e flights s) (event_begins e s own is)) in
     let numbers : or_else c (first_up send (next_event t) after) ≡ first_up send event (e ∷ after) =
-        ap (λ (k : ℕ). or_else c (first_up send k after)) next ∙ first_then None (is_of e.up send) event (first_up send (event + 1) after) in
+    ap (λ (k : ℕ). or_else c (first_up send k after)) next ∙ first_then None (is_of e.up send) event (first_up send (event + 1) after) in
     subst (λ (o : Option ℕ). FollowsIn send event o (events_seen flights after t)) numbers rest
 
 sent_sends : (e : TaleEvent) (from to octets : ℕ) → e.act ≡ acts.Send from to octets → (e.answer ≡ answers.Sent) ⊎ (e.answer ≡ answers.Waiting)
     → sends e.act e.answer ≡ true
 sent_sends e from to octets act is =
     ap (λ (a : Act). sends a e.answer) act
-        ∙ ⊎_elim (λ (one : e.answer ≡ answers.Sent). ap is_sent one) (λ (other : e.answer ≡ answers.Waiting). ap is_sent other) is
+    ∙ ⊎_elim (λ (one : e.answer ≡ answers.Sent). ap is_sent one) (λ (other : e.answer ≡ answers.Waiting). ap is_sent other) is
 
 sent_begun : (e : TaleEvent) → (e.answer ≡ answers.Sent) ⊎ (e.answer ≡ answers.Waiting) → is_begun e.answer ≡ true
 sent_begun e is = ⊎_elim (λ (one : e.answer ≡ answers.Sent). ap is_begun one) (λ (other : e.answer ≡ answers.Waiting). ap is_begun other) is
@@ -884,12 +884,12 @@ datagrams_are_reached before after e flights from to octets only act taken =
     let send : length s.sent + 1 ≡ sends_in before + 1 = omega (arith, events_sent flights before no_stories) in
     let event : next_event s ≡ length before + 1 = omega (arith, events_count flights before no_stories) in
     let found =
-        subst (λ (t : Stories). FollowsIn (length s.sent + 1) (next_event s) (first_up (length s.sent + 1) (next_event s) (e ∷ after)) t)
-        (sym (events_through flights before (e ∷ after) no_stories))
-        (followed_from e after flights s only is (events_own flights before no_stories none_own)) in
+    subst (λ (t : Stories). FollowsIn (length s.sent + 1) (next_event s) (first_up (length s.sent + 1) (next_event s) (e ∷ after)) t)
+    (sym (events_through flights before (e ∷ after) no_stories))
+    (followed_from e after flights s only is (events_own flights before no_stories none_own)) in
     let numbered_so =
-        subst (λ (k : ℕ). FollowsIn k (length before + 1) (first_up k (length before + 1) (e ∷ after)) all) send
-        (subst (λ (k : ℕ). FollowsIn (length s.sent + 1) k (first_up (length s.sent + 1) k (e ∷ after)) all) event found) in
+    subst (λ (k : ℕ). FollowsIn k (length before + 1) (first_up k (length before + 1) (e ∷ after)) all) send
+    (subst (λ (k : ℕ). FollowsIn (length s.sent + 1) k (first_up (length s.sent + 1) k (e ∷ after)) all) event found) in
     story_so (sends_in before + 1) (length before + 1) (first_up (sends_in before + 1) (length before + 1) (e ∷ after)) e (ended all) (sent_begun e taken)
     (goes_follow (sends_in before + 1) (length before + 1) (first_up (sends_in before + 1) (length before + 1) (e ∷ after)) all (ended all)
     (ended_on all) numbered_so)

@@ -54,4 +54,4 @@ abbrev pub DatagramsAreReached : Type 0
 DatagramsAreReached = (before after : List TaleEvent) (e : TaleEvent) (flights : List TaleFlight) (from to octets : ℕ) → All ReadiesOnly (e ∷ after)
     → e.act ≡ acts.Send from to octets → (e.answer ≡ answers.Sent) ⊎ (e.answer ≡ answers.Waiting)
     → IsDatagramStory (sends_in before + 1) (length before + 1) (first_up (sends_in before + 1) (length before + 1) (e ∷ after)) e
-        (stories_of (before ++ (e ∷ after)) flights)
+    (stories_of (before ++ (e ∷ after)) flights)

@@ -133,7 +133,7 @@ unfolding told_all
 all_told [] r = sym (append-nil r.events)
 all_told (x ∷ xs) r =
     all_told xs (recorded x.0 x.1 r) ∙ ap (λ (es : List TaleEvent). es ++ told_all xs (recorded x.0 x.1 r)) (recorded_told x.0 x.1 r)
-        ∙ append_assoc r.events (told_of x.0 x.1 r ∷ []) (told_all xs (recorded x.0 x.1 r))
+    ∙ append_assoc r.events (told_of x.0 x.1 r ∷ []) (told_all xs (recorded x.0 x.1 r))
 
 told_through : (before after : List (ℕ × Entry)) (r : Recording) → told_all (before ++ after) r ≡ told_all before r ++ told_all after (recorded_all before r)
 unfolding told_all
@@ -183,20 +183,20 @@ datagrams_came_as_said before after row x from to datagram run is_send taken =
     let rest = told_all after (recorded row x r) in
     let here = run_from before ((row, x) ∷ after) start run in
     let events_so : all.events ≡ told_all before no_recording ++ (e ∷ rest) =
-        all_told (before ++ ((row, x) ∷ after)) no_recording ∙ told_through before ((row, x) ∷ after) no_recording in
+    all_told (before ++ ((row, x) ∷ after)) no_recording ∙ told_through before ((row, x) ∷ after) no_recording in
     let act : e.act ≡ acts.Send from to (length datagram) = ap act_of is_send in
     let found =
-        datagrams_are_reached (told_all before no_recording) rest e all.flights from to (length datagram)
-        (told_only ((row, x) ∷ after) r here.0 here.1) act taken in
+    datagrams_are_reached (told_all before no_recording) rest e all.flights from to (length datagram)
+    (told_only ((row, x) ∷ after) r here.0 here.1) act taken in
     let count : sends_in (told_all before no_recording) ≡ sends_among (entries_in before) = told_sends before no_recording in
     let place : length (told_all before no_recording) ≡ length before = told_count before no_recording in
     let up : (send n : ℕ) → first_up send n (e ∷ rest) ≡ first_handing_up send n (x ∷ entries_in after) = λ send n. told_up ((row, x) ∷ after) r send n in
     subst (λ (es : List TaleEvent). IsDatagramStory (sends_among (entries_in before) + 1) (length before + 1)
-        (first_handing_up (sends_among (entries_in before) + 1) (length before + 1) (x ∷ entries_in after)) e (stories_of es all.flights)) (sym events_so)
+    (first_handing_up (sends_among (entries_in before) + 1) (length before + 1) (x ∷ entries_in after)) e (stories_of es all.flights)) (sym events_so)
     (subst (λ (o : Option ℕ). IsDatagramStory (sends_among (entries_in before) + 1) (length before + 1) o e
-        (stories_of (told_all before no_recording ++ (e ∷ rest)) all.flights)) (up (sends_among (entries_in before) + 1) (length before + 1))
+    (stories_of (told_all before no_recording ++ (e ∷ rest)) all.flights)) (up (sends_among (entries_in before) + 1) (length before + 1))
     (subst (λ (k : ℕ). IsDatagramStory (k + 1) (length before + 1) (first_up (k + 1) (length before + 1) (e ∷ rest)) e
-        (stories_of (told_all before no_recording ++ (e ∷ rest)) all.flights)) count
+    (stories_of (told_all before no_recording ++ (e ∷ rest)) all.flights)) count
     (subst (λ (k : ℕ). IsDatagramStory (sends_in (told_all before no_recording) + 1) (k + 1)
-        (first_up (sends_in (told_all before no_recording) + 1) (k + 1) (e ∷ rest)) e
-        (stories_of (told_all before no_recording ++ (e ∷ rest)) all.flights)) place found)))
+    (first_up (sends_in (told_all before no_recording) + 1) (k + 1) (e ∷ rest)) e
+    (stories_of (told_all before no_recording ++ (e ∷ rest)) all.flights)) place found)))

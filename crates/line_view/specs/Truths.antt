@@ -53,5 +53,5 @@ DatagramsCameAsSaid = (before after : List (ℕ × Entry)) (row : ℕ) (x : Entr
     → IsRun network start (entries_in (before ++ ((row, x) ∷ after))) → x.event ≡ events.Send from to datagram
     → (answer_of x ≡ answers.Sent) ⊎ (answer_of x ≡ answers.Waiting)
     → IsDatagramStory (sends_among (entries_in before) + 1) (length before + 1)
-        (first_handing_up (sends_among (entries_in before) + 1) (length before + 1) (x ∷ entries_in after)) (told_of row x (recorded_all before no_recording))
-        (stories_of (recorded_all (before ++ ((row, x) ∷ after)) no_recording).events (recorded_all (before ++ ((row, x) ∷ after)) no_recording).flights)
+    (first_handing_up (sends_among (entries_in before) + 1) (length before + 1) (x ∷ entries_in after)) (told_of row x (recorded_all before no_recording))
+    (stories_of (recorded_all (before ++ ((row, x) ∷ after)) no_recording).events (recorded_all (before ++ ((row, x) ∷ after)) no_recording).flights)
