@@ -24,6 +24,7 @@ use Rattle.fragment_buffers.specs.Taking as pieces
 use Rattle.fragment_buffers.proofs.Cuts.{kth_of_cut}
 use Rattle.fragment_buffers.proofs.RoundTrip.{come_together}
 use Rattle.node_rules.specs.declared.heard.Heard.TheVariants as heard
+use Rattle.node_rules.specs.declared.heard.SentHow.TheVariants as how_of
 use Rattle.node_rules.specs.Ciphers.{Ciphers, OpensWhatItSeals}
 use Rattle.node_rules.specs.Drafts.{counters_left, sealed_units, tag_after, tag_write}
 use Rattle.node_rules.specs.Frames.{Sent, Sealed, spelled}
@@ -43,14 +44,14 @@ use Rattle.line_progress.specs.Arrival.{Stop, IsReady, HasLink, HasRoute, AreRea
 use Rattle.line_progress.specs.Arrival.{MayCarry, MayGather, DatagramsArrive}
 use Rattle.line_progress.proofs.Contents.{Content, Entire, Piece, IsContent, unit_with, entire_fits, piece_in_range}
 use Rattle.line_progress.proofs.Hearing.{Hears}
-use Rattle.line_progress.proofs.Routes.{AreFit, fit_of, IsNow, AreNow, all_still, IsUnderWay, Ends, says_first, get_after, carry, Carried, runs_on}
-use Rattle.line_progress.proofs.Routes.{address_is, last_ready}
+use Rattle.line_progress.proofs.Routes.{AreFit, fit_of, IsNow, AreNow, IsUnderWay, Ends, says_first, get_after, carry, Carried, runs_on}
+use Rattle.line_progress.proofs.Routes.{address_is, all_there, last_ready}
 use Rattle.line_progress.proofs.Sending.{IsCut, it_leaves, sends_it, steps_so, takes_next, takes_none}
 
 -- # The frames of a datagram go along the route
 
 -- what is handed up with a frame, where so many more are to come: nothing, and the datagram with the last one
-abbrev IsHanded : List ℕ → ℕ → Option Up → Type 0
+abbrev pub IsHanded : List ℕ → ℕ → Option Up → Type 0
 IsHanded datagram zero up = (note : ℕ) × (up ≡ Some (record { note = note; octets = datagram }))
 IsHanded datagram (suc more) up = up ≡ None
 
@@ -114,7 +115,7 @@ module _ (ciphers : Ciphers) (opens : OpensWhatItSeals ciphers) (frames dest ori
 
 -- # They fly when they are sent
 
-abbrev flight_for : Ciphers → (number : ℕ) → Granted → Key → (hop note counter : ℕ) → MeshUnit → Flight
+abbrev pub flight_for : Ciphers → (number : ℕ) → Granted → Key → (hop note counter : ℕ) → MeshUnit → Flight
 flight_for ciphers number g k hop note counter unit =
     flight_by number (spelled ciphers (Sealed (record {
       to = hop;
@@ -128,13 +129,13 @@ flight_for ciphers number g k hop note counter unit =
 
 module _ (ciphers : Ciphers) (number : ℕ) (g : Granted) (k : Key) (hop note : ℕ) where
   -- the flights of units
-  abbrev flights_for : ℕ → List MeshUnit → List Flight
+  abbrev pub flights_for : ℕ → List MeshUnit → List Flight
   flights_for counter us = map (λ (frame : Sent). flight_by number (spelled ciphers frame)) (sealed_units g k counter (all_go hop note us))
 
   abbrev made : ℕ → MeshUnit → Flight
   made counter unit = flight_for ciphers number g k hop note counter unit
 
-  flies_at : (us : List MeshUnit) (counter j : ℕ) (unit : MeshUnit) → slice_get us j ≡ Some unit
+  pub flies_at : (us : List MeshUnit) (counter j : ℕ) (unit : MeshUnit) → slice_get us j ≡ Some unit
       → slice_get (flights_for counter us) j ≡ Some (made (counter + j) unit)
   flies_at [] counter j unit e = absurd (cc)
   flies_at (u ∷ us) counter zero unit e =
@@ -143,7 +144,7 @@ module _ (ciphers : Ciphers) (number : ℕ) (g : Granted) (k : Key) (hop note : 
   flies_at (u ∷ us) counter (suc j) unit e =
       let same : (counter + 1) + j ≡ counter + suc j = omega arith in flies_at us (counter + 1) j unit e ∙ ap (λ n. Some (made n unit)) same
 
-  count_of : (us : List MeshUnit) (counter : ℕ) → length (flights_for counter us) ≡ length us
+  pub count_of : (us : List MeshUnit) (counter : ℕ) → length (flights_for counter us) ≡ length us
   count_of [] counter = refl
   count_of (u ∷ us) counter = let more = count_of us (counter + 1) in omega (arith, more)
 
@@ -231,92 +232,34 @@ module _ (l : StationMemory) (origin : ℕ) (t : pieces.Taking) where
   unfolding gathered resting
   hears_whole note octets e = record { answer_is = ap (λ o. (gathered l origin (record t { outcome = o })).answer) e; frames_is = refl; memory_is = refl }
 
--- # A datagram of any units
+-- # How a datagram is cut
 
-module _ (ciphers : Ciphers) (opens : OpensWhatItSeals ciphers) (w : World) (s t : Stop) (rest : List Stop) (datagram : List ℕ)
-    (may : MayCarry w s t rest datagram) where
-  abbrev z : Stop
-  z = last_of t rest
+-- What a datagram is on its way from one node to another: its units, what they carry, and what comes of them at the end.
+pub record InFrames (s z : Stop) (datagram : List ℕ) : Type 1 where
+  pub puts : List Write
+  pub tag : ℕ
+  pub us : List MeshUnit
+  pub cut : IsCut s.memory.station s.granted.address z.granted.address datagram puts tag us
+  pub more : ℕ
+  pub some_frames : pieces_of (length datagram) ≡ suc more
+  pub many : length us ≡ pieces_of (length datagram)
+  pub contents : ℕ → Content
+  pub fits : (k : ℕ) → k < pieces_of (length datagram) → IsContent (contents k)
+  pub units_are : (k : ℕ) → k < pieces_of (length datagram)
+      → slice_get us k ≡ Some (unit_with (own_mesh s.granted.address z.granted.address) (contents k))
+  pub Held : ℕ → List Reassembly → Type 0
+  pub starts : Held 0 z.memory.station.reassemblies
+  pub ends : (sent more : ℕ) → sent + (more + 1) ≡ pieces_of (length datagram) → (held : List Reassembly) → Held sent held → (l : StationMemory)
+      (note now : ℕ) → l.reassemblies ≡ held
+      → Ends (contents sent) s.granted.address (last_answer more) (Held (sent + 1)) (IsHanded datagram more) l note now
 
+module _ (s z : Stop) (datagram : List ℕ) (some : 0 < length datagram) (few : length datagram ≤ 1280)
+    (gathers : 376 ≤ length datagram → MayGather s z datagram) where
   abbrev dest : ℕ
   dest = z.granted.address
 
   abbrev frames : ℕ
   frames = pieces_of (length datagram)
-
-  abbrev Brought : Type 0
-  Brought =
-      IsBrought (answers.Sent ∷ all_answers frames rest) z.number datagram
-      (run ciphers w (events.Send s.number z.number datagram ∷ all_deliveries frames (length w.flights + 1) ((length w.flights + 1) + frames) t rest))
-
-  module _ (puts : List Write) (tag : ℕ) (us : List MeshUnit) (cut : IsCut s.memory.station s.granted.address dest datagram puts tag us)
-      (more : ℕ) (some_frames : frames ≡ suc more) (many : length us ≡ frames)
-      (contents : ℕ → Content) (fits : (k : ℕ) → k < frames → IsContent (contents k))
-      (units_are : (k : ℕ) → k < frames → slice_get us k ≡ Some (unit_with (own_mesh s.granted.address dest) (contents k)))
-      (Held : ℕ → List Reassembly → Type 0) (starts : Held 0 z.memory.station.reassemblies)
-      (ends : (sent more : ℕ) → sent + (more + 1) ≡ frames → (held : List Reassembly) → Held sent held → (l : StationMemory) (note now : ℕ)
-      → l.reassemblies ≡ held
-      → Ends (contents sent) s.granted.address (last_answer more) (Held (sent + 1)) (IsHanded datagram more) l note now) where
-    any_arrives : Brought
-    any_arrives =
-        let some = may.some in
-        let few = may.few in
-        let short = may.short in
-        let room = may.room in
-        let ready : AreReady w (s ∷ t ∷ rest) = may.ready in
-        let straight : IsStraight (s ∷ t ∷ rest) = may.straight in
-        let route : HasRoute frames dest s (t ∷ rest) = may.route in
-        let last = last_ready w t rest ready.2 in
-        let first : IsReady s = ready.1 in
-        let link : HasLink frames dest s t = route.0 in
-        let c : ℕ = s.memory.station.counter.next in
-        let event : Event = events.Send s.number z.number datagram in
-        let r : World × Trace = sends_by ciphers w s.number z.number datagram s.node (Some dest) in
-        let step = steps_so ciphers w s.number z.number datagram s.node z.node dest ready.0 last.0 (address_is z last.1) in
-        let left : nat_lt (counters_left s.memory.station) (length (all_go t.granted.address (w.sends + 1) us)) ≡ false =
-        ap (nat_lt (counters_left s.memory.station)) (length-map us _ ∙ many) ∙ link.left in
-        let out = it_leaves ciphers w s.number z.number datagram s.node z.node dest ready.0 last.0 (address_is z last.1) s.memory first.memory first.spared
-        (sealed_units s.granted s.key c (all_go t.granted.address (w.sends + 1) us))
-        (sends_it s.memory.station s.granted first.ring dest t.granted.address link.on link.route s.key first.key datagram some few (w.sends + 1) w.clock
-        puts tag us cut left) in
-        let new : List Flight = flights_for ciphers s.number s.granted s.key t.granted.address (w.sends + 1) c us in
-        let longer : length r.0.flights ≡ length w.flights + frames =
-        ap length out.flights ∙ length-append w.flights new
-        ∙ ap (λ n. length w.flights + n) (count_of ciphers s.number s.granted s.key t.granted.address (w.sends + 1) us c ∙ many) in
-        let counted = out.events in
-        let now : AreNow r.0 dest 0 z.memory.station.reassemblies s (t ∷ rest) =
-        all_still w r.0 s.number out.node dest 0 z.memory.station.reassemblies s (t ∷ rest) out.nodes straight.0
-        (all_at_first w frames dest rest s t ready.2 route) in
-        let brought = all_go_along ciphers opens frames dest s.granted.address first.address last.1.address datagram contents fits Held ends s t rest
-        (length w.flights) (fit_of w (s ∷ t ∷ rest) ready) straight.1 route more 0 r.0 (length w.flights + 1) ((length w.flights + 1) + frames)
-        z.memory.station.reassemblies (omega (arith, some_frames)) (omega arith) (omega (arith, longer)) starts now
-        (λ k lt. record {
-          f = flight_for ciphers s.number s.granted s.key t.granted.address (w.sends + 1) (c + k) (unit_with (own_mesh s.granted.address dest) (contents k));
-          mesh = own_mesh s.granted.address dest;
-          note = w.sends + 1;
-          flown = ap (λ fs. slice_get fs (length w.flights + k)) out.flights ∙ get_after w.flights new (length w.flights + k) k refl
-              ∙ flies_at ciphers s.number s.granted s.key t.granted.address (w.sends + 1) us c k _ (units_are k lt);
-          unlost = refl;
-          same = refl;
-          to = refl;
-          origin_is = refl;
-          few = omega arith;
-          enough = omega (arith, short);
-        })
-        (let budget : frames * (1 + length rest) ≡ (more + 1) * (1 + length rest) = ap (λ n. n * (1 + length rest)) (some_frames ∙ omega arith) in
-        omega (arith, room, budget, counted)) in
-        let ahead : IsBrought (all_answers frames rest) z.number datagram
-        (run ciphers r.0 (all_deliveries frames (length w.flights + 1) ((length w.flights + 1) + frames) t rest)) =
-        subst (λ n. IsBrought (all_answers n rest) z.number datagram
-        (run ciphers r.0 (all_deliveries n (length w.flights + 1) ((length w.flights + 1) + frames) t rest))) (sym some_frames) brought in
-        let said = says_first (record { number = w.events + 1; event = event; trace = r.1; after = r.0 }) answers.Sent None (all_answers frames rest)
-        (record { node = z.number; note = ahead.note; octets = datagram } ∷ [])
-        (run ciphers r.0 (all_deliveries frames (length w.flights + 1) ((length w.flights + 1) + frames) t rest)) out.answer_is out.up_is
-        (record { answers = ahead.answers; handed_is = ahead.up }) in
-        let whole = runs_on ciphers w event (all_deliveries frames (length w.flights + 1) ((length w.flights + 1) + frames) t rest) r
-        (omega (arith, room)) step in
-        subst (λ es. IsBrought (answers.Sent ∷ all_answers frames rest) z.number datagram es) (sym whole)
-        (record { answers = said.answers; note = ahead.note; up = said.handed_is })
 
   -- # Whole
 
@@ -349,11 +292,22 @@ module _ (ciphers : Ciphers) (opens : OpensWhatItSeals ciphers) (w : World) (s t
     }
     ends_whole sent (suc more) all held holds l note now same = absurd (omega (arith, all, one_frame))
 
-    arrives_whole : Brought
-    arrives_whole =
-        let some = may.some in
-        any_arrives [] s.memory.station.next_tag one cut_whole 0 one_frame (sym one_frame) (λ _. Entire datagram)
-        (λ k lt. entire_fits datagram some (leb-true _ _ small)) (λ k lt. first_is k (omega (arith, lt, one_frame))) (λ _ _. Unit {0}) tt ends_whole
+    in_one : InFrames s z datagram
+    in_one = record {
+      puts = [];
+      tag = s.memory.station.next_tag;
+      us = one;
+      cut = cut_whole;
+      more = 0;
+      some_frames = one_frame;
+      many = sym one_frame;
+      contents = λ _. Entire datagram;
+      fits = λ k lt. entire_fits datagram some (leb-true _ _ small);
+      units_are = λ k lt. first_is k (omega (arith, lt, one_frame));
+      Held = λ _ _. Unit {0};
+      starts = tt;
+      ends = ends_whole;
+    }
       where
         first_is : (k : ℕ) → k < 1 → slice_get one k ≡ Some (units.Whole (own_mesh s.granted.address dest) datagram)
         first_is zero lt = refl
@@ -449,23 +403,129 @@ module _ (ciphers : Ciphers) (opens : OpensWhatItSeals ciphers) (w : World) (s t
             good = good;
           }
 
-    arrives_in_parts : Brought
-    arrives_in_parts =
-        let few = may.few in
-        any_arrives (tag_write tag ∷ []) (tag_after tag) parts cut_parts more_than_one.0 more_than_one.1 many_parts
-        (λ k. Piece (piece_of datagram tag k)) (λ k lt. piece_in_range datagram tag k few gather.tag (begins k lt))
-        (λ k lt. got_mapped (λ piece. units.Part (own_mesh own dest) piece) (pieces_cut datagram tag) k (piece_of datagram tag k)
-        (kth_of_cut datagram tag k (piece_of datagram tag k) (let d = long in omega (arith, d)) lt refl))
-        (HaveCome held own datagram tag)
-        (record { cs = []; is = refl; came = λ k lt. absurd (omega arith); rest = λ k le. refl })
-        (λ sent more all before h l note now same. ends_by sent before h l note now same more all)
+    in_parts : InFrames s z datagram
+    in_parts = record {
+      puts = tag_write tag ∷ [];
+      tag = tag_after tag;
+      us = parts;
+      cut = cut_parts;
+      more = more_than_one.0;
+      some_frames = more_than_one.1;
+      many = many_parts;
+      contents = λ k. Piece (piece_of datagram tag k);
+      fits = λ k lt. piece_in_range datagram tag k few gather.tag (begins k lt);
+      units_are = λ k lt. got_mapped (λ piece. units.Part (own_mesh own dest) piece) (pieces_cut datagram tag) k (piece_of datagram tag k)
+          (kth_of_cut datagram tag k (piece_of datagram tag k) (let d = long in omega (arith, d)) lt refl);
+      Held = HaveCome held own datagram tag;
+      starts = record { cs = []; is = refl; came = λ k lt. absurd (omega arith); rest = λ k le. refl };
+      ends = λ sent more all before h l note now same. ends_by sent before h l note now same more all;
+    }
 
-  arrives : Brought
-  arrives = by_size (nat_le (length datagram) 375) refl
+  pub in_frames : InFrames s z datagram
+  in_frames = by_size (nat_le (length datagram) 375) refl
     where
-      by_size : (b : Bool) → nat_le (length datagram) 375 ≡ b → Brought
-      by_size true small = arrives_whole small
-      by_size false big = arrives_in_parts big (may.gathers (let long = leb-false _ _ big in omega (arith, long)))
+      by_size : (b : Bool) → nat_le (length datagram) 375 ≡ b → InFrames s z datagram
+      by_size true small = in_one small
+      by_size false big = in_parts big (gathers (let long = leb-false _ _ big in omega (arith, long)))
+
+-- # Frames that fly go along the route
+
+module _ (ciphers : Ciphers) (opens : OpensWhatItSeals ciphers) (v : World) (s t : Stop) (rest : List Stop) (datagram : List ℕ) (base note : ℕ)
+    (cut : InFrames s (last_of t rest) datagram) (first : IsReady s) (ready : AreReady v (t ∷ rest)) (straight : IsStraight (t ∷ rest))
+    (route : HasRoute (pieces_of (length datagram)) (last_of t rest).granted.address s (t ∷ rest)) (short : length rest ≤ 13)
+    (fly : (k : ℕ) (unit : MeshUnit) → slice_get cut.us k ≡ Some unit
+    → slice_get v.flights (base + k)
+    ≡ Some (flight_for ciphers s.number s.granted s.key t.granted.address note (s.memory.station.counter.next + k) unit))
+    (next : ℕ) (numbered : next ≡ length v.flights + 1)
+    (room : v.events + pieces_of (length datagram) * (1 + length rest) ≤ MAX_EVENTS) where
+  abbrev far : ℕ
+  far = (last_of t rest).granted.address
+
+  abbrev count : ℕ
+  count = pieces_of (length datagram)
+
+  pub fly_on : IsBrought (all_answers count rest) (last_of t rest).number datagram (run ciphers v (all_deliveries count (base + 1) next t rest))
+  fly_on =
+      let last = last_ready v t rest ready in
+      let same : suc cut.more ≡ count = sym cut.some_frames in
+      subst (λ n. IsBrought (all_answers n rest) (last_of t rest).number datagram (run ciphers v (all_deliveries n (base + 1) next t rest))) same
+      (all_go_along ciphers opens count far s.granted.address first.address last.1.address datagram cut.contents cut.fits cut.Held cut.ends s t rest
+      base (first, fit_of v (t ∷ rest) ready) straight route cut.more 0 v (base + 1) next (last_of t rest).memory.station.reassemblies
+      (omega (arith, same)) (omega arith)
+      numbered cut.starts (all_at_first v count far rest s t ready route)
+      (λ k lt. record {
+        f = flight_for ciphers s.number s.granted s.key t.granted.address note (s.memory.station.counter.next + k)
+            (unit_with (own_mesh s.granted.address far) (cut.contents k));
+        mesh = own_mesh s.granted.address far;
+        note = note;
+        flown = fly k _ (cut.units_are k lt);
+        unlost = refl;
+        same = refl;
+        to = refl;
+        origin_is = refl;
+        few = omega arith;
+        enough = omega (arith, short);
+      })
+      (let budget : count * (1 + length rest) ≡ (cut.more + 1) * (1 + length rest) = ap (λ n. n * (1 + length rest)) (cut.some_frames ∙ omega arith) in
+      omega (arith, room, budget)))
+
+-- # The law
+
+module _ (ciphers : Ciphers) (opens : OpensWhatItSeals ciphers) (w : World) (s t : Stop) (rest : List Stop) (datagram : List ℕ)
+    (may : MayCarry w s t rest datagram) where
+  abbrev last : Stop
+  last = last_of t rest
+
+  abbrev all_frames : ℕ
+  all_frames = pieces_of (length datagram)
+
+  abbrev goal : Type 0
+  goal =
+      IsBrought (answers.Sent ∷ all_answers all_frames rest) last.number datagram
+      (run ciphers w (events.Send s.number last.number datagram
+      ∷ all_deliveries all_frames (length w.flights + 1) ((length w.flights + 1) + all_frames) t rest))
+
+  arrives : goal
+  arrives =
+      let some = may.some in
+      let few = may.few in
+      let short = may.short in
+      let room = may.room in
+      let ready : AreReady w (s ∷ t ∷ rest) = may.ready in
+      let straight : IsStraight (s ∷ t ∷ rest) = may.straight in
+      let route : HasRoute all_frames last.granted.address s (t ∷ rest) = may.route in
+      let cut : InFrames s last datagram = in_frames s last datagram some few may.gathers in
+      let target = last_ready w t rest ready.2 in
+      let first : IsReady s = ready.1 in
+      let link : HasLink all_frames last.granted.address s t = route.0 in
+      let c : ℕ = s.memory.station.counter.next in
+      let event : Event = events.Send s.number last.number datagram in
+      let r : World × Trace = sends_by ciphers w s.number last.number datagram s.node (Some last.granted.address) in
+      let step = steps_so ciphers w s.number last.number datagram s.node last.node last.granted.address ready.0 target.0 (address_is last target.1) in
+      let left : nat_lt (counters_left s.memory.station) (length (all_go t.granted.address (w.sends + 1) cut.us)) ≡ false =
+      ap (nat_lt (counters_left s.memory.station)) (length-map cut.us _ ∙ cut.many) ∙ link.left in
+      let out = it_leaves ciphers w s.number last.number datagram s.node last.node last.granted.address ready.0 target.0 (address_is last target.1)
+      s.memory first.memory first.spared how_of.Sent (sealed_units s.granted s.key c (all_go t.granted.address (w.sends + 1) cut.us)) _ refl
+      (sends_it s.memory.station s.granted first.ring last.granted.address t.granted.address link.on link.route s.key first.key datagram some few
+      (w.sends + 1) w.clock cut.puts cut.tag cut.us cut.cut left) in
+      let new : List Flight = flights_for ciphers s.number s.granted s.key t.granted.address (w.sends + 1) c cut.us in
+      let longer : length r.0.flights ≡ length w.flights + all_frames =
+      ap length out.flights ∙ length-append w.flights new
+      ∙ ap (λ n. length w.flights + n) (count_of ciphers s.number s.granted s.key t.granted.address (w.sends + 1) cut.us c ∙ cut.many) in
+      let counted = out.events in
+      let more : List Event = all_deliveries all_frames (length w.flights + 1) ((length w.flights + 1) + all_frames) t rest in
+      let ahead : IsBrought (all_answers all_frames rest) last.number datagram (run ciphers r.0 more) =
+      fly_on ciphers opens r.0 s t rest datagram (length w.flights) (w.sends + 1) cut first
+      (all_there w r.0 s.number out.node (t ∷ rest) out.nodes straight.0 ready.2) straight.1 route short
+      (λ k unit e. ap (λ fs. slice_get fs (length w.flights + k)) out.flights ∙ get_after w.flights new (length w.flights + k) k refl
+      ∙ flies_at ciphers s.number s.granted s.key t.granted.address (w.sends + 1) cut.us c k unit e)
+      ((length w.flights + 1) + all_frames) (omega (arith, longer)) (omega (arith, room, counted)) in
+      let said = says_first (record { number = w.events + 1; event = event; trace = r.1; after = r.0 }) answers.Sent None (all_answers all_frames rest)
+      (record { node = last.number; note = ahead.note; octets = datagram } ∷ []) (run ciphers r.0 more) out.answer_is out.up_is
+      (record { answers = ahead.answers; handed_is = ahead.up }) in
+      let whole = runs_on ciphers w event more r (omega (arith, room)) step in
+      subst (λ es. IsBrought (answers.Sent ∷ all_answers all_frames rest) last.number datagram es) (sym whole)
+      (record { answers = said.answers; note = ahead.note; up = said.handed_is })
 
 pub arrive : DatagramsArrive
 arrive = arrives

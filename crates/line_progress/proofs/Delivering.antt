@@ -36,7 +36,7 @@ use Rattle.line_rules.specs.Steps.{world_after}
 use Rattle.line_rules.specs.Worlds.{World, Flight, Trace, node_at, flight_at, is_forged_tag}
 use Rattle.line_progress.proofs.Acting.{acted, acts_whole}
 use Rattle.line_progress.proofs.Sealing.{IsSealable, is_no_discovery, unit_whole}
-use Rattle.line_progress.proofs.Accepting.{accepts, got_of}
+use Rattle.line_progress.proofs.Accepting.{accepts, got_by, got_of}
 use Rattle.line_progress.proofs.Contents.{Content, unit_with, carries_no_message, carries_no_command}
 use Rattle.line_progress.proofs.Hearing.{Hears, Does, hears_so}
 
@@ -48,6 +48,8 @@ pub record Goes (ciphers : Ciphers) (w : World) (number : ℕ) (answer : Recepti
   pub nodes : r.0.nodes ≡ slice_set w.nodes number node
   pub flights : r.0.flights ≡ w.flights ++ map (λ (frame : Sent). flight_by number (spelled ciphers frame)) frames
   pub events : r.0.events ≡ w.events + 1
+  pub clock : r.0.clock ≡ w.clock
+  pub checks : r.0.checks_on ≡ w.checks_on
   pub answer_is : r.1.happenings.answer ≡ answer.answer
   pub up_is : r.1.happenings.up ≡ handed_by number answer.up
 
@@ -62,6 +64,8 @@ module _ (ciphers : Ciphers) (w : World) (number : ℕ) where
     nodes = refl;
     flights = ap (λ (fs : List Sent). w.flights ++ map (λ (frame : Sent). flight_by number (spelled ciphers frame)) fs) did.frames_is;
     events = refl;
+    clock = refl;
+    checks = refl;
     answer_is = ap (λ (a : Reception). a.answer) did.answer_is;
     up_is = ap (λ (a : Reception). handed_by number a.up) did.answer_is;
   }
@@ -83,9 +87,65 @@ module _ (ciphers : Ciphers) (w : World) (number : ℕ) where
         nodes = goes.nodes;
         flights = goes.flights;
         events = goes.events;
+        clock = goes.clock;
+        checks = goes.checks;
         answer_is = goes.answer_is;
         up_is = goes.up_is;
       })
+
+-- a frame that its node accepts is heard by it
+module _ (ciphers : Ciphers) (opens : OpensWhatItSeals ciphers) (w : World) (number cost : ℕ) (x : Node) (m : Memory)
+    (runs : x.memory ≡ Some m) (spared : x.store.cut ≡ None) (u : SealedUnit) (fits : IsSealable u) (all : Bool)
+    (accepted : accept m.station x.eui (arrived ciphers (spelled ciphers (Sealed u)).octets) ≡ marking m.station u.from u.counter (got_by all u))
+    (believed : is_dropped w number (got_by all u) ≡ false) (none : command_of (got_by all u) ≡ None) where
+  -- the node that has accepted the frame
+  abbrev pub taken_by : NodeStep (Result Accepted FrameRefusal)
+  taken_by = acted x (of_station m (marking m.station u.from u.counter (got_by all u)))
+
+  -- its station
+  abbrev pub marked_by : StationMemory
+  marked_by = (marking m.station u.from u.counter (got_by all u)).memory
+
+  -- the octets of the frame, and the note that they have
+  abbrev pub octets_by : List ℕ
+  octets_by = (spelled ciphers (Sealed u)).octets
+
+  abbrev pub note_so : ℕ
+  note_so = note_by w octets_by (got_by all u).path
+
+  pub is_heard : comes ciphers w number x octets_by cost ≡ hearing_outcome_by ciphers w number taken_by.node octets_by (got_by all u) cost None
+  unfolding comes marking
+  is_heard =
+      let y : Node = taken_by.node in
+      let accepting = acts_whole x m (Err frames.Halted) (λ n. of_station n (accept n.station x.eui (arrived ciphers octets_by))) runs spared
+      ∙ ap (λ p. acted x (of_station m p)) accepted in
+      (λ i. if is_no_discovery ciphers opens u fits i then discovers_by w number x octets_by cost x.memory
+      else accepted_further ciphers w number octets_by cost
+      (acts x (Err frames.Halted) (λ n. of_station n (accept n.station x.eui (arrived ciphers octets_by)))))
+      ∙ ap (accepted_further ciphers w number octets_by cost) accepting
+      ∙ (λ i. if believed i then unbelieved ciphers w number y octets_by (got_by all u)
+      else hearing_outcome_by ciphers w number y octets_by (got_by all u) cost (command_of (got_by all u)))
+      ∙ ap (hearing_outcome_by ciphers w number y octets_by (got_by all u) cost) none
+
+  module _ (a : Heard) (sent : List Sent) (left : StationMemory)
+      (heard : Hears (hear marked_by (got_by all u) cost note_so w.clock) a sent left) (unread_is : unread (Ok a) ≡ None) where
+    pub outcome_goes : Goes ciphers w number (station_reception a) sent (with_station left m)
+        (hearing_outcome ciphers w number taken_by.node octets_by (got_by all u) cost)
+    unfolding marking
+    outcome_goes =
+        let d : NodeStep Reception = hearing_step ciphers taken_by.node (got_by all u) cost note_so w.clock in
+        received_goes ciphers w number (forged_by w octets_by (got_by all u).path || list_any (is_forged_tag w.made) d.opened) d (station_reception a) sent
+        (with_station left m)
+        (hears_so ciphers taken_by.node (with_station marked_by m) refl refl (got_by all u) cost note_so w.clock a sent left heard unread_is)
+
+    -- what the node then does is in the world and in the report, where neighbours are not checked
+    pub unchecked_comes : w.checks_on ≡ false → Goes ciphers w number (station_reception a) sent (with_station left m) (comes ciphers w number x octets_by cost)
+    unchecked_comes off =
+        subst (λ r. Goes ciphers w number (station_reception a) sent (with_station left m) r)
+        (sym (is_heard ∙ (λ i. if off i then checked ciphers w number (got_by all u)
+        (hearing_step ciphers taken_by.node (got_by all u) cost note_so w.clock)
+        (hearing_outcome ciphers w number taken_by.node octets_by (got_by all u) cost)
+        else hearing_outcome ciphers w number taken_by.node octets_by (got_by all u) cost))) outcome_goes
 
 module _ (ciphers : Ciphers) (opens : OpensWhatItSeals ciphers) (w : World) (number cost : ℕ) (x : Node) (m : Memory) (g : Granted)
     (runs : x.memory ≡ Some m) (spared : x.store.cut ≡ None) (ring : m.station.ring ≡ Some g)
@@ -122,13 +182,14 @@ module _ (ciphers : Ciphers) (opens : OpensWhatItSeals ciphers) (w : World) (num
 
   module _ (a : Heard) (sent : List Sent) (left : StationMemory)
       (heard : Hears (hear marked (got_of u) cost note_is w.clock) a sent left) (none : unread (Ok a) ≡ None) where
-    heard_goes : Goes ciphers w number (station_reception a) sent (with_station left m) (hearing_outcome ciphers w number taken.node octets_of (got_of u) cost)
-    unfolding marking
-    heard_goes =
-        let d : NodeStep Reception = hearing_step ciphers taken.node (got_of u) cost note_is w.clock in
-        received_goes ciphers w number (forged_by w octets_of (got_of u).path || list_any (is_forged_tag w.made) d.opened) d (station_reception a) sent
-        (with_station left m)
-        (hears_so ciphers taken.node (with_station marked m) refl refl (got_of u) cost note_is w.clock a sent left heard none)
+    believed : is_dropped w number (got_of u) ≡ false
+    believed = and_right w.checks_on false refl
+
+    accepted : accept m.station x.eui (arrived ciphers octets_of) ≡ marking m.station u.from u.counter (got_of u)
+    accepted = accepts ciphers opens u fits m.station x.eui g ring apart key room to one
+
+    outcome : Goes ciphers w number (station_reception a) sent (with_station left m) (hearing_outcome ciphers w number taken.node octets_of (got_of u) cost)
+    outcome = outcome_goes ciphers opens w number cost x m runs spared u fits false accepted believed no_command a sent left heard none
 
     by_checks : (b : Bool) → Goes ciphers w number (station_reception a) sent (with_station left m)
         (if b then checked ciphers w number (got_of u) (hearing_step ciphers taken.node (got_of u) cost note_is w.clock)
@@ -137,29 +198,14 @@ module _ (ciphers : Ciphers) (opens : OpensWhatItSeals ciphers) (w : World) (num
     by_checks true =
         checked_goes ciphers w number (got_of u) (hearing_step ciphers taken.node (got_of u) cost note_is w.clock) (station_reception a) sent
         (with_station left m) (hearing_outcome ciphers w number taken.node octets_of (got_of u) cost)
-        (none_is_due (hearing_step ciphers taken.node (got_of u) cost note_is w.clock).answer.answer) heard_goes
-    by_checks false = heard_goes
-
-    accepted : acts x (Err frames.Halted) (λ n. of_station n (accept n.station x.eui (arrived ciphers octets_of))) ≡ taken
-    accepted =
-        acts_whole x m (Err frames.Halted) (λ n. of_station n (accept n.station x.eui (arrived ciphers octets_of))) runs spared
-        ∙ ap (λ p. acted x (of_station m p)) (accepts ciphers opens u fits m.station x.eui g ring to one apart key room)
+        (none_is_due (hearing_step ciphers taken.node (got_of u) cost note_is w.clock).answer.answer) outcome
+    by_checks false = outcome
 
     -- what the node then does is in the world and in the report
     pub frame_comes : Goes ciphers w number (station_reception a) sent (with_station left m) (comes ciphers w number x octets_of cost)
-    unfolding comes marking
     frame_comes =
-        let y : Node = taken.node in
-        let dropped : is_dropped w number (got_of u) ≡ false = and_right w.checks_on false refl in
-        let path : comes ciphers w number x octets_of cost ≡ hearing_outcome_by ciphers w number y octets_of (got_of u) cost None =
-        (λ i. if is_no_discovery ciphers opens u fits i then discovers_by w number x octets_of cost x.memory
-        else accepted_further ciphers w number octets_of cost
-        (acts x (Err frames.Halted) (λ n. of_station n (accept n.station x.eui (arrived ciphers octets_of)))))
-        ∙ ap (accepted_further ciphers w number octets_of cost) accepted
-        ∙ (λ i. if dropped i then unbelieved ciphers w number y octets_of (got_of u)
-        else hearing_outcome_by ciphers w number y octets_of (got_of u) cost (command_of (got_of u)))
-        ∙ ap (hearing_outcome_by ciphers w number y octets_of (got_of u) cost) no_command in
-        subst (λ r. Goes ciphers w number (station_reception a) sent (with_station left m) r) (sym path) (by_checks w.checks_on)
+        subst (λ r. Goes ciphers w number (station_reception a) sent (with_station left m) r)
+        (sym (is_heard ciphers opens w number cost x m runs spared u fits false accepted believed no_command)) (by_checks w.checks_on)
 
 -- # Steps
 

@@ -8,6 +8,14 @@ pub mod Delivering
 pub mod Sending
 pub mod Routes
 pub mod Arriving
+pub mod Requests
+pub mod OfferedRoutes
+pub mod Seeking
+pub mod Messages
+pub mod RequestRoutes
+pub mod Replies
+pub mod ReplyRoutes
+pub mod Finding
 pub mod UnitFates
 pub mod SendFates
 pub mod PieceFates

@@ -1,12 +1,12 @@
 -- A node that has kept a counter of a sender admits the next one.
-use Rattle.std.proofs.Common.{◌≡◌, ℕ, ◌+◌, Bool, true, false, [], ◌∷◌, ◌++◌, length, get_or, set, Option, Some, None, Ok, Err, refl, sym}
+use Rattle.std.proofs.Common.{◌≡◌, ◌≢◌, ℕ, ◌+◌, ◌<◌, Bool, true, false, [], ◌∷◌, ◌++◌, length, get_or, set, Option, Some, None, Ok, Err, refl, sym}
 use Rattle.std.proofs.Common.{ap, subst, ◌∙◌, arith, length-append}
 use Rattle.std.specs.Prelude.{if◌then◌else◌, nat_le, nat_lt, is_some, ◌==◌}
 use Rattle.std.specs.Option.{option_map_or}
 use Rattle.std.proofs.lemmas.Bool.{eq-eqb, ne_eqb, lt-leb, lt-ltb}
-use Rattle.std.proofs.lemmas.List.{get_or-set_same, get_or_append_left, get_or_push}
+use Rattle.std.proofs.lemmas.List.{get_or-set_same, get_or-set_other, get_or_append_left, get_or_push}
 use Rattle.std.proofs.lemmas.List.Sums.{position_or_len_is}
-use Rattle.store_tables.proofs.SlotTables.{found, apart, place_of-set}
+use Rattle.store_tables.proofs.SlotTables.{found, apart, place_of-push, place_of-set}
 use Rattle.frame_counters.specs.declared.fault.PeerFault.TheVariants.{Replayed, PeersFull}
 use Rattle.frame_counters.specs.PeerMarks.{Peer, Table, peers, place_of, peer_at, peer_ahead, advanced, room_for, kept_after}
 
@@ -24,21 +24,28 @@ advanced_mark p from counter = by_stored (nat_le counter p.stored)
     by_stored true = refl
     by_stored false = refl
 
--- the sender is held, and its mark is the counter
-room_above : (table : Table) (from counter place : ℕ) → place_of table from ≡ Some place → (peer_at table place).mark ≡ counter
-    → room_for table from (counter + 1) ≡ Ok tt
-room_above table from counter place at mark =
-    let above : nat_le (counter + 1) counter ≡ false = lt-leb (counter + 1) counter (omega arith) in
-    (λ i. option_map_or (λ p. if nat_le (counter + 1) (peer_at table p).mark then Err Replayed else Ok tt) (at i)
+-- A sender is held in a table, and its mark is this counter.
+pub record IsMarked (table : Table) (from counter : ℕ) : Type 0 where
+  pub place : ℕ
+  pub at : place_of table from ≡ Some place
+  pub mark : (peer_at table place).mark ≡ counter
+
+-- each later counter is admitted
+pub room_above : (table : Table) (from counter next : ℕ) → counter < next → IsMarked table from counter → room_for table from next ≡ Ok tt
+room_above table from counter next later is =
+    let above : nat_le next counter ≡ false = lt-leb next counter (omega (arith, later)) in
+    let at = is.at in
+    let mark = is.mark in
+    (λ i. option_map_or (λ p. if nat_le next (peer_at table p).mark then Err Replayed else Ok tt) (at i)
     (if length table == 64 then Err PeersFull else Ok tt))
-    ∙ (λ i. if nat_le (counter + 1) (mark i) then Err Replayed else Ok tt)
+    ∙ (λ i. if nat_le next (mark i) then Err Replayed else Ok tt)
     ∙ (λ i. if above i then Err Replayed else Ok tt)
 
 module _ (table : Table) (from counter : ℕ) where
   abbrev none : Peer
   none = record { address = 0; mark = 0; stored = 0 }
 
-  of_held : (place : ℕ) → place_of table from ≡ Some place → room_for (kept_after table from counter) from (counter + 1) ≡ Ok tt
+  of_held : (place : ℕ) → place_of table from ≡ Some place → IsMarked (kept_after table from counter) from counter
   of_held place at =
       let p : Peer = advanced (peer_at table place) from counter in
       let there = found peers table from place none at in
@@ -46,12 +53,13 @@ module _ (table : Table) (from counter : ℕ) where
       let here : get_or (set table place p) place none ≡ p = get_or-set_same table place p none there.0 in
       let after : kept_after table from counter ≡ set table place p =
       λ i. option_map_or (λ q. set table q (advanced (peer_at table q) from counter)) (at i) (table ++ peer_ahead from counter ∷ []) in
-      subst (λ t. room_for t from (counter + 1) ≡ Ok tt) (sym after)
-      (room_above (set table place p) from counter place
-      (place_of-set peers table p place from place (ap (place_of table) key ∙ at) at)
-      (ap (λ (q : Peer). q.mark) here ∙ advanced_mark (peer_at table place) from counter))
+      subst (λ t. IsMarked t from counter) (sym after) (record {
+        place = place;
+        at = place_of-set peers table p place from place (ap (place_of table) key ∙ at) at;
+        mark = ap (λ (q : Peer). q.mark) here ∙ advanced_mark (peer_at table place) from counter;
+      })
 
-  of_new : place_of table from ≡ None → room_for (kept_after table from counter) from (counter + 1) ≡ Ok tt
+  of_new : place_of table from ≡ None → IsMarked (kept_after table from counter) from counter
   of_new at =
       let p : Peer = peer_ahead from counter in
       let more : Table = table ++ p ∷ [] in
@@ -65,12 +73,53 @@ module _ (table : Table) (from counter : ℕ) where
       let place : place_of more from ≡ Some (length table) = rw (first, inside) refl in
       let after : kept_after table from counter ≡ more =
       λ i. option_map_or (λ q. set table q (advanced (peer_at table q) from counter)) (at i) more in
-      subst (λ t. room_for t from (counter + 1) ≡ Ok tt) (sym after)
-      (room_above more from counter (length table) place (ap (λ (q : Peer). q.mark) here))
+      subst (λ t. IsMarked t from counter) (sym after)
+      (record { place = length table; at = place; mark = ap (λ (q : Peer). q.mark) here })
 
-  pub admits_next : room_for (kept_after table from counter) from (counter + 1) ≡ Ok tt
-  admits_next = by_place (place_of table from) refl
+  -- a counter that is kept is the mark of its sender
+  pub is_marked : IsMarked (kept_after table from counter) from counter
+  is_marked = by_place (place_of table from) refl
     where
-      by_place : (o : Option ℕ) → place_of table from ≡ o → room_for (kept_after table from counter) from (counter + 1) ≡ Ok tt
+      by_place : (o : Option ℕ) → place_of table from ≡ o → IsMarked (kept_after table from counter) from counter
       by_place None at = of_new at
       by_place (Some place) at = of_held place at
+
+  pub admits_next : room_for (kept_after table from counter) from (counter + 1) ≡ Ok tt
+  admits_next = room_above (kept_after table from counter) from counter (counter + 1) (omega arith) is_marked
+
+-- and stays it where one of another sender is kept
+module _ (table : Table) (from counter other next : ℕ) (apart_from : other ≢ from) (is : IsMarked table from counter) where
+  abbrev blank : Peer
+  blank = record { address = 0; mark = 0; stored = 0 }
+
+  pub stays_marked : IsMarked (kept_after table other next) from counter
+  stays_marked = by_place (place_of table other) refl
+    where
+      by_place : (o : Option ℕ) → place_of table other ≡ o → IsMarked (kept_after table other next) from counter
+      by_place None at =
+          let p : Peer = peer_ahead other next in
+          let after : kept_after table other next ≡ table ++ p ∷ [] =
+          λ i. option_map_or (λ q. set table q (advanced (peer_at table q) other next)) (at i) (table ++ p ∷ []) in
+          let held = is.at in
+          let mark = is.mark in
+          let there = found peers table from is.place blank held in
+          subst (λ t. IsMarked t from counter) (sym after) (record {
+            place = is.place;
+            at = place_of-push peers table p from is.place held;
+            mark = ap (λ (q : Peer). q.mark) (get_or_append_left table (p ∷ []) blank is.place there.0) ∙ mark;
+          })
+      by_place (Some place) at =
+          let p : Peer = advanced (peer_at table place) other next in
+          let after : kept_after table other next ≡ set table place p =
+          λ i. option_map_or (λ q. set table q (advanced (peer_at table q) other next)) (at i) (table ++ peer_ahead other next ∷ []) in
+          let held = is.at in
+          let mark = is.mark in
+          let there = found peers table from is.place blank held in
+          let here = found peers table other place blank at in
+          let key : p.address ≡ other = advanced_address (peer_at table place) other next here.1 in
+          let away : is.place ≢ place = λ e. apart_from (sym here.1 ∙ ap (λ k. (get_or table k blank).address) (sym e) ∙ there.1) in
+          subst (λ t. IsMarked t from counter) (sym after) (record {
+            place = is.place;
+            at = place_of-set peers table p place from is.place (ap (place_of table) key ∙ at) held;
+            mark = ap (λ (q : Peer). q.mark) (get_or-set_other table place is.place p blank away) ∙ mark;
+          })

@@ -80,13 +80,13 @@ get_after [] ys k j e = ap (slice_get ys) (omega (arith, e))
 get_after (x ∷ xs) ys zero j e = absurd (omega (arith, e))
 get_after (x ∷ xs) ys (suc k) j e = get_after xs ys k j (omega (arith, e))
 
-place_within : {A : Type 0} (xs : List A) (k : ℕ) (x : A) → slice_get xs k ≡ Some x → k < length xs
+pub place_within : {A : Type 0} (xs : List A) (k : ℕ) (x : A) → slice_get xs k ≡ Some x → k < length xs
 place_within [] k x e = absurd (cc)
 place_within (y ∷ xs) zero x e = omega arith
 place_within (y ∷ xs) (suc k) x e = let h = place_within xs k x e in omega arith
 
 -- the flight at a place has the number after it
-at_place : (w : World) (flight place : ℕ) → flight ≡ place + 1 → flight_at w flight ≡ slice_get w.flights place
+pub at_place : (w : World) (flight place : ℕ) → flight ≡ place + 1 → flight_at w flight ≡ slice_get w.flights place
 at_place w flight place number =
     let other : (flight == 0) ≡ false = ne_eqb flight 0 (λ e. absurd (omega (arith, number, e))) in
     let less : flight - 1 ≡ place = omega (arith, number) in
@@ -116,6 +116,16 @@ AreFit (s ∷ rest) = IsReady s × AreFit rest
 pub fit_of : (w : World) (stops : List Stop) → AreReady w stops → AreFit stops
 fit_of w [] ready = tt
 fit_of w (s ∷ rest) ready = (ready.1, fit_of w rest ready.2)
+
+-- nodes that did nothing are there and ready
+pub all_there : (w v : World) (number : ℕ) (y : Node) (stops : List Stop) → v.nodes ≡ slice_set w.nodes number y → IsNoneOf number stops
+    → AreReady w stops → AreReady v stops
+all_there w v number y [] same none ready = tt
+all_there w v number y (t ∷ rest) same none ready = (
+  ap (λ nodes. slice_get nodes t.number) same ∙ slice_get-set_other w.nodes number t.number y none.0 ∙ ready.0,
+  ready.1,
+  all_there w v number y rest same none.1 ready.2,
+)
 
 -- A node of a route now, after so many frames went by it to an address: it admits this next counter of the node before it, and, at the end of
 -- the route, it holds these reassemblies.
@@ -190,7 +200,7 @@ pub record IsUnderWay (ciphers : Ciphers) (w : World) (place dest origin sent : 
   pub few : mesh.hops ≤ 14
   pub enough : more < mesh.hops
 
-no_target : (t : Stop) → IsReady t → t.granted.address ≢ to_all
+pub no_target : (t : Stop) → IsReady t → t.granted.address ≢ to_all
 no_target t ready e = let low : t.granted.address < 0xFFFE = ready.address in absurd (omega arith)
 
 -- What the last node of a route makes of a unit: it says this word, leaves such reassemblies, and hands such a thing up.

@@ -17,15 +17,15 @@ use Rattle.node_rules.specs.declared.refusal.SendRefusal.TheVariants as refusals
 use Rattle.node_rules.specs.Accepting.{is_own}
 use Rattle.node_rules.specs.Calls.{Sending, how, lacking, send, send_fault, send_from, sending_ends, tag_taken}
 use Rattle.node_rules.specs.Ciphers.{Ciphers}
-use Rattle.node_rules.specs.Drafts.{Draft, OfRoom, OfNumbers, alone, body_goes, checked, counters_left, empty_draft, is_awaited, lack, no_room}
+use Rattle.node_rules.specs.Drafts.{Draft, OfRoom, OfNumbers, alone, body_goes, checked, counted, counters_left, empty_draft, is_awaited, lack, no_room}
 use Rattle.node_rules.specs.Drafts.{tag_after, tag_write}
 use Rattle.node_rules.specs.Drafts.{numbers_spent}
 use Rattle.node_rules.specs.Drafts.{refused, sealed, sealed_by, sealed_units, sealing, sealing_key, sets_out, with_next_tag}
 use Rattle.node_rules.specs.Frames.{Sent, spelled}
 use Rattle.node_rules.specs.Memory.{StationMemory, Memory, Node, Datagram, next_hop, node_address}
+use Rattle.node_rules.specs.MemoryDrafts.{with_station}
 use Rattle.node_rules.specs.NodeSteps.{NodeStep, acts, answering, of_station}
 use Rattle.line_events.specs.declared.event.Answer.{Answer}
-use Rattle.line_events.specs.declared.event.Answer.TheVariants as answers
 use Rattle.line_events.specs.declared.event.Event.TheVariants as events
 use Rattle.line_events.specs.declared.event.StepFault.TheVariants as faults
 use Rattle.line_rules.specs.Answers.{sent_word}
@@ -37,10 +37,11 @@ use Rattle.line_progress.proofs.Acting.{acts_whole}
 use Rattle.line_progress.proofs.Accepting.{own_is}
 use Rattle.line_progress.proofs.Delivering.{within}
 
--- What a station does about a datagram: it goes out in these frames.
-pub record SendsIt (p : Sending) (frames : List Sent) : Type 0 where
-  pub answer_is : p.answer ≡ Ok how_of.Sent
+-- What a station does about a datagram: it says this, these frames go out, and it holds this.
+pub record SendsIt (p : Sending) (how : SentHow) (frames : List Sent) (left : StationMemory) : Type 0 where
+  pub answer_is : p.answer ≡ Ok how
   pub frames_is : p.frames ≡ frames
+  pub memory_is : p.memory ≡ left
 
 -- the draft of a datagram before its units, with the tag that is then the next one
 abbrev pub begun_with : StationMemory → List Write → ℕ → Draft StationMemory
@@ -109,6 +110,10 @@ module _ (l : StationMemory) (g : Granted) (ring : l.ring ≡ Some g) (dest hop 
   unfolding body_goes
   body_is = λ i. record begun { units = all_go hop note (cut.units i) }
 
+  -- what is left of the station
+  abbrev pub left_with : StationMemory
+  left_with = counted alone (length drafted.units) drafted.memory
+
   plan_is : send l dest datagram note now ≡ sealing alone sending_ends drafted how_of.Sent
   unfolding checked sealed
   plan_is =
@@ -122,9 +127,10 @@ module _ (l : StationMemory) (g : Granted) (ring : l.ring ≡ Some g) (dest hop 
       ∙ (λ i. if left i then refused sending_ends l sending_ends.spent else sealing alone sending_ends drafted (how l dest))
       ∙ (λ i. sealing alone sending_ends drafted (if is_some (route i) then how_of.Sent else how_of.Waiting))
 
-  pub sends_it : SendsIt (send l dest datagram note now) (sealed_units g k l.counter.next (all_go hop note us))
+  pub sends_it : SendsIt (send l dest datagram note now) how_of.Sent (sealed_units g k l.counter.next (all_go hop note us)) left_with
   sends_it = record {
     answer_is = ap (λ (p : Sending). p.answer) plan_is;
+    memory_is = ap (λ (p : Sending). p.memory) plan_is;
     frames_is =
         ap (λ (p : Sending). p.frames) plan_is
         ∙ (λ i. sealed_by (ring i) l.counter.next drafted.units)
@@ -133,25 +139,35 @@ module _ (l : StationMemory) (g : Granted) (ring : l.ring ≡ Some g) (dest hop 
 
 -- # In the world
 
--- The datagram is out: its frames fly.
-pub record Leaves (ciphers : Ciphers) (w : World) (number : ℕ) (frames : List Sent) (r : World × Trace) : Type 0 where
+-- The datagram was taken with this answer: the frames fly, and the node holds this.
+pub record Leaves (ciphers : Ciphers) (w : World) (number : ℕ) (word : Answer) (frames : List Sent) (left : Memory) (r : World × Trace) : Type 0 where
   pub node : Node
+  pub memory : node.memory ≡ Some left
+  pub spared : node.store.cut ≡ None
   pub nodes : r.0.nodes ≡ slice_set w.nodes number node
   pub flights : r.0.flights ≡ w.flights ++ map (λ (frame : Sent). flight_by number (spelled ciphers frame)) frames
   pub events : r.0.events ≡ w.events + 1
-  pub answer_is : r.1.happenings.answer ≡ answers.Sent
+  pub clock : r.0.clock ≡ w.clock
+  pub checks : r.0.checks_on ≡ w.checks_on
+  pub answer_is : r.1.happenings.answer ≡ word
   pub up_is : r.1.happenings.up ≡ None
 
 module _ (ciphers : Ciphers) (w : World) (from to : ℕ) (datagram : List ℕ) where
-  leaves : (tag : ℕ) (d : NodeStep Answer) (frames : List Sent) → d.answer ≡ answers.Sent → d.frames ≡ frames
-      → Leaves ciphers w from frames (sending ciphers w from to datagram tag d)
+  leaves : (tag : ℕ) (d : NodeStep Answer) (word : Answer) (frames : List Sent) (left : Memory) → is_taken word ≡ true → d.answer ≡ word
+      → d.frames ≡ frames → d.node.memory ≡ Some left → d.node.store.cut ≡ None
+      → Leaves ciphers w from word frames left (sending ciphers w from to datagram tag d)
   unfolding world_after
-  leaves tag d frames a f =
-      subst (λ b. Leaves ciphers w from frames (sent_if w from to datagram tag b (node_outcome ciphers w from d))) (sym (ap is_taken a)) (record {
+  leaves tag d word frames left taken a f m c =
+      subst (λ b. Leaves ciphers w from word frames left (sent_if w from to datagram tag b (node_outcome ciphers w from d)))
+      (sym (ap is_taken a ∙ taken)) (record {
         node = d.node;
+        memory = m;
+        spared = c;
         nodes = refl;
         flights = ap (λ (fs : List Sent). w.flights ++ map (λ (frame : Sent). flight_by from (spelled ciphers frame)) fs) f;
         events = refl;
+        clock = refl;
+        checks = refl;
         answer_is = a;
         up_is = refl;
       })
@@ -167,12 +183,16 @@ module _ (ciphers : Ciphers) (w : World) (from to : ℕ) (datagram : List ℕ) w
         ∙ (λ i. option_map_or (λ b. Ok (sends_by ciphers w from to datagram x (node_address b))) (target i) (Err faults.Node))
         ∙ (λ i. Ok (sends_by ciphers w from to datagram x (address i)))
 
-    pub it_leaves : (m : Memory) → x.memory ≡ Some m → x.store.cut ≡ None → (frames : List Sent)
-        → SendsIt (send m.station dest datagram (w.sends + 1) w.clock) frames
-        → Leaves ciphers w from frames (sends_by ciphers w from to datagram x (Some dest))
-    it_leaves m runs spared frames s =
+    pub it_leaves : (m : Memory) → x.memory ≡ Some m → x.store.cut ≡ None → (how : SentHow) (frames : List Sent) (left : StationMemory)
+        → is_taken (sent_word (Ok how)) ≡ true
+        → SendsIt (send m.station dest datagram (w.sends + 1) w.clock) how frames left
+        → Leaves ciphers w from (sent_word (Ok how)) frames (with_station left m) (sends_by ciphers w from to datagram x (Some dest))
+    it_leaves m runs spared how frames left taken s =
         let plan = λ (n : Memory). of_station n (send n.station dest datagram (w.sends + 1) w.clock) in
         let did = acts_whole x m (Err refusals.Halted) plan runs spared in
-        leaves (tag_of x) (answering sent_word (acts x (Err refusals.Halted) plan)) frames
+        leaves (tag_of x) (answering sent_word (acts x (Err refusals.Halted) plan)) (sent_word (Ok how)) frames (with_station left m) taken
         (ap (λ (d : NodeStep (Result SentHow SendRefusal)). sent_word d.answer) did ∙ ap sent_word s.answer_is)
         (ap (λ (d : NodeStep (Result SentHow SendRefusal)). d.frames) did ∙ s.frames_is)
+        (ap (λ (d : NodeStep (Result SentHow SendRefusal)). d.node.memory) did
+        ∙ ap (λ (l : StationMemory). Some (with_station l m)) s.memory_is)
+        (ap (λ (d : NodeStep (Result SentHow SendRefusal)). d.node.store.cut) did)

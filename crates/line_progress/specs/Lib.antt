@@ -10,3 +10,4 @@ pub mod Ups
 pub mod Held
 pub mod EventFates
 pub mod BroadcastFates
+pub mod Discovery

@@ -2,6 +2,7 @@
 ghost use Rattle.line_progress.specs.Arrival.{DatagramsArrive};
 ghost use Rattle.line_progress.specs.BodyFates.{BodiesHaveFates};
 ghost use Rattle.line_progress.specs.BroadcastFates.{BroadcastsGoFurther};
+ghost use Rattle.line_progress.specs.Discovery.{DiscoveriesArrive, RequestsArrive};
 ghost use Rattle.line_progress.specs.EventFates.{EventsKeepBodies, EventsKeepFlights, EventsKeepPieces, PiecesArrive};
 ghost use Rattle.line_progress.specs.Held.{EventsKeepHeld, EventsLeaveOthers};
 ghost use Rattle.line_progress.specs.PieceFates.{HearingKeepsPieces, PiecesComeIn, PiecesHaveFates};
@@ -14,6 +15,18 @@ ghost use Rattle.line_progress.specs.Ups.{DatagramsCame, StationsHandUp};
 /// links before the next one, is handed up at the last node with the same octets, after one delivery of each frame for each link.
 pub fn datagrams_arrive()
     ensures { DatagramsArrive }
+{}
+
+/// Where the nodes of a way take the request of a node that has no route, it is passed on by each of them and answered by the node that is sought,
+/// after one delivery for each link; then each of them has a route back to its origin.
+pub fn requests_arrive()
+    ensures { RequestsArrive }
+{}
+
+/// Where the nodes of a way of at most 14 links take a request and its reply, a datagram of 1 to 1,280 octets that is sent without a route waits, and
+/// after one delivery for each link, there and back, it leaves, and is handed up at the last node with the same octets.
+pub fn discoveries_arrive()
+    ensures { DiscoveriesArrive }
 {}
 
 /// A datagram that is to be sent goes out whole, waits for a route, or is refused.

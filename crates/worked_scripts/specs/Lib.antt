@@ -11,4 +11,5 @@ pub mod StoreScripts
 pub mod CallScripts
 pub mod FurtherScripts
 pub mod ArrivalScripts
+pub mod DiscoveryScripts
 pub mod FateScripts

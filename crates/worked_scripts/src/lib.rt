@@ -5,6 +5,7 @@
 
 mod arrival_scripts;
 mod call_scripts;
+mod discovery_scripts;
 mod fate_scripts;
 mod frame_scripts;
 mod further_scripts;
@@ -35,6 +36,18 @@ pub use call_scripts::eight_random_values_are_held;
 pub use call_scripts::halted_nodes_do_nothing;
 pub use call_scripts::sixty_four_are_near;
 pub use call_scripts::the_book_has_room;
+pub use discovery_scripts::a_datagram_finds_its_way;
+pub use discovery_scripts::each_node_of_a_way_is_ready;
+pub use discovery_scripts::each_node_takes_the_reply;
+pub use discovery_scripts::each_node_takes_the_request;
+pub use discovery_scripts::neighbours_have_their_addresses;
+pub use discovery_scripts::pieces_find_their_way;
+pub use discovery_scripts::the_node_may_seek;
+pub use discovery_scripts::the_node_that_asks_learns;
+pub use discovery_scripts::the_way_is_straight;
+pub use discovery_scripts::the_way_may_be_found;
+pub use discovery_scripts::the_way_may_be_found_for_pieces;
+pub use discovery_scripts::what_else_a_search_needs;
 pub use fate_scripts::a_body_has_each_fate;
 pub use fate_scripts::a_lost_flight_comes;
 pub use fate_scripts::a_piece_has_each_fate;
