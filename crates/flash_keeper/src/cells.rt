@@ -432,7 +432,8 @@ fn is_decayed<B: FlashBank>(bank: &B, cell: usize) -> bool
     reads_marked(bank, cell) && !is_right(bank, cell)
 }
 
-/// Whether a cell of a bank has decayed: whether bits of its slot, its length, its octets or its check have changed by themselves.
+/// Whether a cell of a bank has decayed: whether it counts, and bits of its slot, its length, its octets or its check have changed by themselves. It says so
+/// of no bank that stands for records as they were written (`left`), and of each one with such a cell (`decayed`). It reads each cell once.
 pub fn has_decayed<B: FlashBank>(bank: &B) -> bool
     requires firm { (B.bank bank.now).torn ≡ false }
     ensures left { result ≡ true → (n : ℕ) (c : Choice) → IsLeft (B.bank bank.now) n c → ⊥ }

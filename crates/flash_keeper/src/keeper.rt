@@ -1,9 +1,9 @@
 //! The keeper.
-ghost use Rattle.std.specs.Prelude.{◌≡◌, ◌<◌, ◌≤◌, ◌^◌, ◌/◌, ℕ, is_ok, OnOk, OnErr, IfOk, IfErr, None, true, ◌⊎◌};
+ghost use Rattle.std.specs.Prelude.{◌≡◌, ◌<◌, ◌≤◌, ◌^◌, ◌/◌, ℕ, is_ok, OnOk, OnErr, IfOk, IfErr, None, true, false, ◌⊎◌};
 ghost use Rattle.std.specs.FinMap.{insert};
 ghost use Rattle.std.specs.FinMap as map;
 ghost use Rattle.plc_base.specs.Keeper.{IsSlot, Puts};
-ghost use Rattle.flash_keeper.specs.Log.{Choice, room};
+ghost use Rattle.flash_keeper.specs.Log.{Choice, IsLeft, room};
 ghost use Rattle.flash_keeper.specs.Banks.{AreLeft, IsStore, IsCause, IsOpened, IsLeftBy, IsDecayed, MayOpen, FlashStore};
 ghost use Rattle.flash_keeper.specs.Flash.{IsBlank};
 
@@ -215,16 +215,14 @@ impl<B: FlashBank + Drop> FlashKeeper<B> {
         Ok(())
     }
 
-    /// Whether each cell that counts still has its check: an opening looks at that, and no call after it. False tells that bits have changed by
-    /// themselves since, so what a get answers may not be what was put: then open the banks again, which answers [`OpenFault::Decayed`].
-    /// Nothing in the model of a bank changes by itself, so the contract says no more than that there is no false alarm.
-    pub fn is_intact(&self) -> bool
-        ensures { result ≡ true }
+    /// The bank that stands for the records. An opening looks whether a cell of it has decayed, and no call after it: on a device that runs for years
+    /// without an opening ask [`has_decayed`](crate::has_decayed) of it. Where that says so, what a get answers may not be what was put: then open the
+    /// banks again, which answers [`OpenFault::Decayed`].
+    pub fn live(&self) -> &B
+        ensures firm { (B.bank result.now).torn ≡ false }
+        ensures log { (n : ℕ) × IsLeft (B.bank result.now) n (record { old = self.now.store.records; new = self.now.left }) }
     {
-        if has_decayed(&self.pair.live) {
-            return false;
-        }
-        true
+        &self.pair.live
     }
 
     /// The banks, to be opened again: they stand for the records that it holds, or those that are left of a failed put.

@@ -39,7 +39,7 @@
 //! A node whose store has decayed must not go on with what is left: a counter may be among it. Format the banks, and let it join again.
 //!
 //! A put looks whether its cell is erased, and a copy at the check of each record: it fails where bits have changed since the opening. A get
-//! does not: what was opened long ago [`FlashKeeper::is_intact`] checks again.
+//! does not: what was opened long ago [`has_decayed`] checks again, asked of [`FlashKeeper::live`].
 //!
 //! # After a failed put
 //!
@@ -86,5 +86,6 @@ mod model_flash;
 mod pair;
 
 pub use bank::{FlashBank, LAYOUT, layout_of};
+pub use cells::has_decayed;
 pub use keeper::{FlashKeeper, OpenFault};
 pub use model_flash::{Cut, ModelFlash};
