@@ -2,11 +2,11 @@
 use Rattle.std.proofs.Common.{◌≡◌, ◌⊎◌, inl, inr, ℕ, ◌+◌, ◌-◌, ◌<◌, ◌≤◌, Bool, true, false, Option, Some, None, refl}
 use Rattle.std.proofs.Common.{sym, subst, ap, ◌∙◌, arith}
 use Rattle.plc_base.specs.Keeper.{Records}
-use Rattle.flash_keeper.specs.Flash.{Bank, Programs, Erases, erased, head_word}
-use Rattle.flash_keeper.specs.Log.{place, mark, close, fence, room, upto, IsCertain, IsSettled, IsLeft, IsFoundBlank, IsClosable, IsShort, Choice}
+use Rattle.flash_keeper.specs.Flash.{Bank, IsBlank, Programs, Erases, erased, head_word}
+use Rattle.flash_keeper.specs.Log.{place, mark, close, fence, room, upto, upto_fence, IsCertain, IsSettled, IsLeft, IsFoundBlank, IsClosable, IsShort, Choice}
 use Rattle.flash_keeper.specs.Log.{IsOneOf, SameOutside, IsOpen, IsBlankFrom, IsDecided, AreDecided}
 use Rattle.flash_keeper.specs.Banks.{IsHeaded, IsDead, IsNumbered, IsStanding, IsBeside, AreLeft, IsStore, AreReady, IsSeen, choice_of}
-use Rattle.flash_keeper.specs.Banks.{IsDecayed, MayOpen, IsCause}
+use Rattle.flash_keeper.specs.Banks.{IsDecayed, MayOpen, IsCause, IsCopy, AreHeld, AreAmong}
 use Rattle.flash_keeper.specs.declared.keeper.OpenFault.{OpenFault}
 use Rattle.flash_keeper.proofs.CellLemmas.{upto-same, upto_fence-same, all_certain-same, whole-same}
 use Rattle.flash_keeper.proofs.LogLemmas.{one_of, settled_is_left, uncounted_cell}
@@ -135,10 +135,9 @@ ready_is_left live spare n c r one = record {
 }
 
 -- and where the spare one is erased, or that was cut short
-pub wiped_is_ready : (live old new : Bank) (n : ℕ) → AreReady live old n → new.torn ≡ false → ((i : ℕ) → new.words i ≡ Some erased) → new.size ≡ old.size
-    → AreReady live new n
-wiped_is_ready live old new n r firm blank size =
-    record { sizes = r.sizes ∙ sym size; number = r.number; mark = r.mark; log = r.log; beside = inr (firm, blank 2) }
+pub wiped_is_ready : (live old new : Bank) (n : ℕ) → AreReady live old n → IsBlank new → new.size ≡ old.size → AreReady live new n
+wiped_is_ready live old new n r b size =
+    record { sizes = r.sizes ∙ sym size; number = r.number; mark = r.mark; log = r.log; beside = inr (b.firm, b.blank 2) }
 
 pub wiped_is_left : (live old new : Bank) (n : ℕ) (c : Choice) → AreReady live old n → IsDead new → IsOneOf c (upto live.words n) → AreLeft live new n c
 wiped_is_left live old new n c r dead one = record { number = r.number; log = settled_is_left live n c r.log one; beside = inl (dead, inr r.mark) }
@@ -269,12 +268,13 @@ short : (bank : Bank) (n at : ℕ) (c : Choice) → 0 < at → IsLeft bank n c �
     → IsShort bank n at c
 short bank n at c more left (inl (here, unmarked)) never =
     let back : at - 1 + 1 ≡ n = omega (arith, more, here) in
+    let still = sym (uncounted_cell bank.words (at - 1) (none (left.certain (at - 1) (omega (arith, here, more))))) ∙ ap (upto bank.words) back in
     record {
       more = more;
       certain = λ k le. left.certain k (omega (arith, le, here));
       within = omega (arith, here, n_within bank n c left);
-      stands = one_of (sym (uncounted_cell bank.words (at - 1) (none (left.certain (at - 1) (omega (arith, here, more)))))
-          ∙ ap (upto bank.words) back) left.stands;
+      same = still;
+      stands = one_of still left.stands;
       left = left;
     }
   where
@@ -287,6 +287,7 @@ short bank n at c more left (inr next) never =
       more = more;
       certain = λ k le. left.certain k (omega (arith, le, last));
       within = omega (arith, last, n_within bank n c left);
+      same = ap (upto bank.words) last;
       stands = one_of (ap (upto bank.words) last) left.stands;
       left = left;
     }
@@ -334,3 +335,160 @@ store_left live spare n c number marked log dead = inl (n, record { number = num
 
 pub dead_moved : (new old : Bank) → new ≡ old → IsDead old → IsDead new
 dead_moved new old same dead = subst (λ (b : Bank). IsDead b) (sym same) dead
+
+-- beside no copy
+no_copy : (live spare : Bank) (n : ℕ) (copied : Option ℕ) → copied ≡ None → (cells : ℕ) → copied ≡ Some cells → IsCopy live spare n cells
+no_copy live spare n copied none cells is = absurd (some_is_none (sym is ∙ none))
+
+pub ready_is_held : (live spare : Bank) (n : ℕ) (copied : Option ℕ) → AreReady live spare n → copied ≡ None → AreHeld live spare n copied
+ready_is_held live spare n copied r none = record {
+  sizes = r.sizes;
+  left = ready_is_left live spare n (choice_of live n) r (inl refl);
+  copy = no_copy live spare n copied none;
+}
+
+pub wiped_is_held : (live old new : Bank) (n : ℕ) (copied : Option ℕ) → AreReady live old n → IsDead new → new.size ≡ old.size → copied ≡ None
+    → AreHeld live new n copied
+wiped_is_held live old new n copied r dead size none = record {
+  sizes = r.sizes ∙ sym size;
+  left = wiped_is_left live old new n (choice_of live n) r dead (inl refl);
+  copy = no_copy live new n copied none;
+}
+
+-- a log of which something may be open, beside a bank that no reading takes for a live one
+pub held_beside_dead : (live spare : Bank) (n : ℕ) (copied : Option ℕ) (c : Choice) → live.size ≡ spare.size → IsNumbered live → live.words 2 ≡ Some 0
+    → IsLeft live n c → IsDead spare → copied ≡ None → AreHeld live spare n copied × AreAmong c live n
+held_beside_dead live spare n copied c sizes number marked left dead none = (
+  record {
+    sizes = sizes;
+    left = record { number = number; log = own_left live n c left; beside = inl (dead, inr marked) };
+    copy = no_copy live spare n copied none;
+  },
+  (left.stands, left.stands_next),
+)
+
+-- and beside a copy whose mark may be cut short
+pub held_beside_standing : (live spare : Bank) (n : ℕ) (copied : Option ℕ) (c : Choice) → live.size ≡ spare.size → IsNumbered live → IsLeft live n c
+    → IsStanding spare (choice_of live n) → copied ≡ None → AreHeld live spare n copied
+held_beside_standing live spare n copied c sizes number left standing none = record {
+  sizes = sizes;
+  left = record { number = number; log = own_left live n c left; beside = inr standing };
+  copy = no_copy live spare n copied none;
+}
+
+-- what a log may stand for stays where the words of its cells do
+choice-same : (old new : Bank) (n : ℕ) → ((i : ℕ) → 3 ≤ i → new.words i ≡ old.words i) → choice_of new n ≡ choice_of old n
+choice-same old new n same =
+    let first = records-same old new n same in
+    let second = upto_fence-same old.words new.words n (λ i three le. same i three) (λ i a b. same i (omega (arith, a))) (same (fence n) (omega arith)) in
+    λ i. record { old = first i; new = second i }
+
+among-same : (old new : Bank) (n : ℕ) → ((i : ℕ) → 3 ≤ i → new.words i ≡ old.words i) → AreAmong (choice_of old n) new n
+among-same old new n same =
+    let e = choice-same old new n same in
+    (inl (ap (λ (c : Choice). c.old) e), inr (ap (λ (c : Choice). c.new) e))
+
+some_same : {A : Type 0} {x y : A} → Some x ≡ Some y → x ≡ y
+some_same e = cc
+
+-- banks of which only the words of heads have changed
+pub moved_is_held : (old live spare : Bank) (n : ℕ) (copied : Option ℕ) → live.size ≡ spare.size → ((i : ℕ) → 3 ≤ i → live.words i ≡ old.words i)
+    → copied ≡ None → AreLeft live spare n (choice_of old n) → AreHeld live spare n copied × AreAmong (choice_of old n) live n
+moved_is_held old live spare n copied sizes same none left = (
+  record {
+    sizes = sizes;
+    left = subst (λ (c : Choice). AreLeft live spare n c) (sym (choice-same old live n same)) left;
+    copy = no_copy live spare n copied none;
+  },
+  among-same old live n same,
+)
+
+-- a bank whose copy is whole, and whose retirement was cut short
+pub handed_is_held : (old retired b0 b1 : Bank) (g n cells m : ℕ) (copied : Option ℕ) (c : Choice) → 0 < g → IsHeaded b0 g → IsSettled b0 m
+    → Programs 2 0 true b0 b1 → Programs 0 0 false old retired → b0.size ≡ old.size → upto b0.words m ≡ upto old.words cells → IsNumbered old
+    → IsLeft old n c → IsOneOf (choice_of old n) (upto old.words cells) → copied ≡ Some m → AreHeld retired b1 n copied
+handed_is_held old retired b0 b1 g n cells m copied c more head log p q size records number left one is =
+    let all = marked_log b0 b1 g m true head log p in
+    let same = after_head 0 0 false old retired (omega arith) q in
+    let stands = subst (λ (d : Choice). IsOneOf d (upto old.words cells)) (sym (choice-same old retired n same)) one in
+    record {
+      sizes = q.size ∙ sym size ∙ sym p.size;
+      left = record {
+        number = numbered-same old retired q.torn (q.others 1 (λ e. omega (arith, e))) number;
+        log = own_left retired n c (word_of_left old retired 0 n c false (omega arith) q left);
+        beside = inr (copy_stands b0 b1 g m true (choice_of retired n) (upto old.words cells) more head log records p stands);
+      };
+      copy = λ k at. subst (λ (j : ℕ). IsCopy retired b1 n j) (some_same (sym is ∙ at)) (record {
+        number = numbered_of_head b1 g more all.0;
+        mark = p.done refl;
+        log = all.1;
+        stands = one_of (all.2 ∙ records) stands;
+      });
+    }
+
+-- its retirement was cut short once more
+retired_is_held : (old retired spare : Bank) (n : ℕ) (copied : Option ℕ) → Programs 0 0 false old retired → AreHeld old spare n copied
+    → AreHeld retired spare n copied × AreAmong (choice_of old n) retired n
+retired_is_held old retired spare n copied q held =
+    let same = after_head 0 0 false old retired (omega arith) q in
+    let choice = sym (choice-same old retired n same) in (
+      record {
+        sizes = q.size ∙ held.sizes;
+        left = subst (λ (c : Choice). AreLeft retired spare n c) choice (record {
+          number = numbered-same old retired q.torn (q.others 1 (λ e. omega (arith, e))) held.left.number;
+          log = word_of_left old retired 0 n (choice_of old n) false (omega arith) q held.left.log;
+          beside = beside held.left.beside;
+        });
+        copy = λ k at. let copy = held.copy k at in record {
+          number = copy.number;
+          mark = copy.mark;
+          log = copy.log;
+          stands = subst (λ (c : Choice). IsOneOf c (upto spare.words k)) choice copy.stands;
+        };
+      },
+      among-same old retired n same,
+    )
+  where
+    beside : IsBeside old spare (choice_of old n) → IsBeside retired spare (choice_of old n)
+    beside (inl (dead, inl number)) = inl (dead, inl number)
+    beside (inl (dead, inr marked)) = inl (dead, inr (q.others 2 (λ e. omega (arith, e)) ∙ marked))
+    beside (inr standing) = inr standing
+
+pub still_held : (old retired spare other : Bank) (n next : ℕ) (copied now : Option ℕ) → Programs 0 0 false old retired → other ≡ spare → next ≡ n
+    → now ≡ copied → AreHeld old spare n copied → AreHeld retired other next now × AreAmong (choice_of old n) retired next
+still_held old retired spare other n next copied now q bank_is next_is copied_is held =
+    subst (λ (b : Bank). AreHeld retired b next now × AreAmong (choice_of old n) retired next) (sym bank_is)
+    (subst (λ (k : ℕ). AreHeld retired spare k now × AreAmong (choice_of old n) retired k) (sym next_is)
+    (subst (λ (o : Option ℕ). AreHeld retired spare n o × AreAmong (choice_of old n) retired n) (sym copied_is)
+    (retired_is_held old retired spare n copied q held)))
+
+-- a copy that is gone on with, beside the bank that was copied and retired
+pub copy_goes_on : (old copy retired : Bank) (n cells : ℕ) → IsCopy old copy n cells → old.size ≡ copy.size → Programs 0 0 true old retired
+    → AreReady copy retired cells
+copy_goes_on old copy retired n cells is sizes q = record {
+  sizes = sym sizes ∙ sym q.size;
+  number = is.number;
+  mark = is.mark;
+  log = is.log;
+  beside = inl (q.done refl);
+}
+
+-- where nothing was open, a rewriting that failed leaves the banks held with as many cells
+pub rewritten_is_held : (old spare live other : Bank) (n next : ℕ) (copied : Option ℕ) → AreReady old spare n → next ≡ n
+    → ((k : ℕ) (c : Choice) → IsLeft old k c → IsOneOf (choice_of old k) (upto old.words n) → AreHeld live other k copied) → AreHeld live other next copied
+rewritten_is_held old spare live other n next copied r same held =
+    subst (λ (k : ℕ). AreHeld live other k copied) (sym same) (held n (choice_of old n) (settled_is_left old n (choice_of old n) r.log (inl refl)) (inl refl))
+
+-- and with nothing else to be found
+pub rewritten_found : (old spare live other : Bank) (n next : ℕ) → AreReady old spare n → next ≡ n
+    → ((k : ℕ) (c : Choice) → IsLeft old k c → IsOneOf c (upto old.words n) → AreLeft live other k c) → upto_fence live.words next ≡ upto old.words n
+rewritten_found old spare live other n next r same left =
+    let choice : Choice = record { old = upto old.words n; new = upto old.words n } in
+    let l = left n choice (settled_is_left old n choice r.log (inl refl)) (inl refl) in
+    ap (upto_fence live.words) same ∙ elim l.log.stands_next [
+      | inl e ↦ e
+      | inr e ↦ e
+    ]
+
+pub rewritten_records : (old live : Bank) (n next : ℕ) → next ≡ n → ((i : ℕ) → 3 ≤ i → live.words i ≡ old.words i) → upto live.words next ≡ upto old.words n
+rewritten_records old live n next same words = ap (upto live.words) same ∙ records-same old live n words

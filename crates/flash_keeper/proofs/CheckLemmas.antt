@@ -1,4 +1,4 @@
--- A check tells each change within one octet: the residue is another one from there on, since 256 and 2^32 have inverses modulo a prime.
+-- A check shows each change within one octet: the residue is another one from there on, since 256 and 2^32 have inverses modulo a prime.
 use Rattle.std.proofs.Common.{◌≡◌, ℕ, ◌+◌, ◌*◌, ◌%◌, ◌<◌, List, [], ◌∷◌, ◌++◌, arith}
 use Rattle.std.specs.List.{fold}
 use Rattle.flash_keeper.specs.declared.check.TheConstants.{MODULUS}

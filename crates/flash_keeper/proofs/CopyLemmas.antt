@@ -1,10 +1,10 @@
 -- The records that cells stand for at one slot, and that a log has the same records without the cells that a later one replaces.
 use Rattle.std.proofs.Common.{◌≡◌, ℕ, zero, suc, ◌+◌, ◌-◌, ◌<◌, ◌≤◌, ◌==◌, ◌&&◌, ◌||◌, not, Bool, true, false, cond, if◌then◌else◌, List}
-use Rattle.std.proofs.Common.{Option, Some, None, refl, sym, subst, ap, ◌∙◌, arith}
+use Rattle.std.proofs.Common.{Option, Some, None, is_some, refl, sym, subst, ap, ◌∙◌, arith}
 use Rattle.std.proofs.lemmas.Bool.Decides.{nat_tests}
 use Rattle.std.specs.Ordering.{nat_cmp, eq_by_cmp}
 use Rattle.std.specs.Cmp.{nat_cmp_total}
-use Rattle.std.specs.FinMap.{get, insert, empty, get-insert, get-empty, same_map, nat_cmp-IsAntisymmetric}
+use Rattle.std.specs.FinMap.{get, insert, empty, len, get-insert, get-empty, len-insert, len-empty, same_map, nat_cmp-IsAntisymmetric}
 use Rattle.plc_base.specs.Keeper.{Records}
 use Rattle.flash_keeper.specs.Flash.{Word}
 use Rattle.flash_keeper.proofs.CellLemmas.{succ}
@@ -177,3 +177,48 @@ unfolding holds_later
 holds_later-end w k n s le =
     let none : n - k ≡ 0 = omega (arith, le) in
     ap (λ (d : ℕ). holds_later w k d s) none
+
+or_true : (a b : Bool) → b ≡ true → (a || b) ≡ true
+or_true true b e = refl
+or_true false b e = e
+
+passed_over : (c h e : Bool) (x y : Option (List ℕ)) → (e ≡ true → h ≡ true) → cond ((c && not h) && e) x y ≡ y
+passed_over true true e x y f = refl
+passed_over true false true x y f = absurd (never (f refl))
+  where
+    never : false ≡ true → ⊥
+    never e = cc
+passed_over true false false x y f = refl
+passed_over false h e x y f = refl
+
+-- no record is kept whose slot a later cell has
+kept_free : (w : ℕ → Word) (n k q : ℕ) → k ≤ n → holds_later w k (n - k) q ≡ true → get (kept w n k) q ≡ None
+unfolding kept holds_later
+kept_free w n zero q le h = get-empty nat_cmp q
+kept_free w n (suc k) q le h =
+    let more : n - k ≡ suc (n - suc k) = omega (arith, le) in
+    let before = kept_free w n k q (omega (arith, le)) (ap (λ (d : ℕ). holds_later w k d q) more ∙ or_true (holds w k q) (holds_later w (suc k) (n - suc k) q)
+    h) in
+    get_step (counts w k && not (holds_later w (suc k) (n - suc k) (slot_at w k))) (kept w n k) (slot_at w k) (octets_at w k) q
+    ∙ passed_over (counts w k) (holds_later w (suc k) (n - suc k) (slot_at w k)) (slot_at w k == q) (Some (octets_at w k)) (get (kept w n k) q) (λ e.
+    let same = same_number (slot_at w k) q e in subst (λ (s : ℕ). holds_later w (suc k) (n - suc k) s ≡ true) (sym same) h)
+    ∙ before
+
+same_is : (s : ℕ) → (s == s) ≡ true
+same_is s = grind (arith, nat_tests)
+
+holds_own : (w : ℕ → Word) (k : ℕ) → counts w k ≡ true → holds w k (slot_at w k) ≡ true
+holds_own w k e = (λ i. e i && (slot_at w k == slot_at w k)) ∙ same_is (slot_at w k)
+
+-- so a cell that is kept is one record more
+pub kept-one_more : (w : ℕ → Word) (n k : ℕ) → k < n → counts w k ≡ true → holds_later w (k + 1) (n - (k + 1)) (slot_at w k) ≡ false
+    → len (kept w n (k + 1)) ≡ len (kept w n k) + 1
+kept-one_more w n k less e f =
+    let s = slot_at w k in
+    let here = holds_later-suc w k n s less ∙ ap (λ (b : Bool). b || holds_later w (k + 1) (n - (k + 1)) s) (holds_own w k e) in
+    let free = kept_free w n k s (omega (arith, less)) here in
+    ap (λ (r : Records). len r) (kept-counted w n k e f) ∙ len-insert nat_cmp_total (kept w n k) s (octets_at w k)
+    ∙ ap (λ (o : Option (List ℕ)). cond (is_some o) (len (kept w n k)) (len (kept w n k) + 1)) free
+
+pub len-none : (w : ℕ → Word) (n : ℕ) → len (kept w n 0) ≡ 0
+len-none w n = ap (λ (r : Records). len r) (kept-zero w n) ∙ len-empty nat_cmp (List ℕ)

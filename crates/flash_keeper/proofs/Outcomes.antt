@@ -21,6 +21,14 @@ pub one_err : {T E P R : Type 0} (r : Result T E) → (P → R) → OnErr r P �
 one_err (Ok x) f p = tt
 one_err (Err e) f p = f p
 
+pub both_err : {T E P Q R : Type 0} (r : Result T E) → (P → Q → R) → OnErr r P → OnErr r Q → OnErr r R
+both_err (Ok x) f p q = tt
+both_err (Err e) f p q = f p q
+
+pub three_err : {T E P Q R S : Type 0} (r : Result T E) → (P → Q → R → S) → OnErr r P → OnErr r Q → OnErr r R → OnErr r S
+three_err (Ok x) f p q s = tt
+three_err (Err e) f p q s = f p q s
+
 pub if_ok : {T E : Type 0} {P : T → Type 0} (r : Result T E) → ((x : T) → P x) → IfOk r P
 if_ok (Ok x) f = f x
 if_ok (Err e) f = tt

@@ -5,8 +5,9 @@ use Rattle.std.specs.Ordering.{nat_cmp, eq_by_cmp}
 use Rattle.std.specs.Cmp.{nat_cmp_total}
 use Rattle.std.specs.FinMap.{get, insert, get-insert, get-empty}
 use Rattle.plc_base.specs.Keeper.{Records}
+use Rattle.flash_keeper.specs.Log.{IsOneOf}
 use Rattle.flash_keeper.specs.Banks.{FlashStore}
-use Rattle.flash_keeper.specs.Runs.{Event, Put, Open, IsRun, Leaves, Holds, HoldsWhatWasPut, EachOpeningIsTheSame}
+use Rattle.flash_keeper.specs.Runs.{Event, Put, Open, Reopen, IsRun, Leaves, Holds, HoldsWhatWasPut, EachOpeningIsTheSame}
 
 get_insert : (r : Records) (s : ℕ) (o : List ℕ) (q : ℕ) → get (insert r s o) q ≡ cond (s == q) (Some o) (get r q)
 get_insert r s o q = get-insert nat_cmp_total r s o q ∙ ap (λ (b : Bool). cond b (Some o) (get r q)) (tie_is q s)
@@ -74,6 +75,13 @@ holds (Open ∷ events) now (before, run, records, left) slot =
   where
     opened : Both events before slot → (now.store.records ≡ before.store.records) ⊎ (now.store.records ≡ before.left)
         → Holds events slot (get now.store.records slot) ⊎ Leaves events slot (get now.store.records slot)
+    opened old (inl e) = inl (subst (λ (m : Records). Holds events slot (get m slot)) (sym e) old.0)
+    opened old (inr e) = subst (λ (m : Records). Holds events slot (get m slot) ⊎ Leaves events slot (get m slot)) (sym e) old.1
+holds (Reopen ∷ events) now (before, run, left) slot =
+    let old = holds events before run slot in (opened old left.records, inl (opened old left.left))
+  where
+    opened : {r : Records} → Both events before slot → IsOneOf (record { old = before.store.records; new = before.left }) r
+        → Holds events slot (get r slot) ⊎ Leaves events slot (get r slot)
     opened old (inl e) = inl (subst (λ (m : Records). Holds events slot (get m slot)) (sym e) old.0)
     opened old (inr e) = subst (λ (m : Records). Holds events slot (get m slot) ⊎ Leaves events slot (get m slot)) (sym e) old.1
 

@@ -1,11 +1,11 @@
 -- Two banks: the live one and the spare one, and what an opening may find in them.
-use Rattle.std.specs.Prelude.{◌≡◌, ◌<◌, ◌⊎◌, ℕ, Bool, true, false, List, Option, Some, None, refl}
+use Rattle.std.specs.Prelude.{◌≡◌, ◌<◌, ◌⊎◌, ◌==◌, ◌&&◌, ℕ, Bool, true, false, List, Option, Some, None, refl}
 use Rattle.std.specs.Bool.{OnFalse}
-use Rattle.std.specs.Coded.{Coded, code_by, coded×, coded_ℕ, coded_list}
-use Rattle.std.specs.FinMap.{code, insert}
+use Rattle.std.specs.Coded.{Coded, code_by, coded×, coded_ℕ, coded_bool, coded_list}
+use Rattle.std.specs.FinMap.{code, insert, len}
 use Rattle.plc_base.specs.Keeper.{Records, Store, store_code}
 use Rattle.flash_keeper.specs.Flash.{Bank, erased, head_word}
-use Rattle.flash_keeper.specs.Log.{Choice, IsOneOf, IsSettled, IsLeft, HasDecayed, room, upto, upto_fence}
+use Rattle.flash_keeper.specs.Log.{Choice, IsOneOf, IsSettled, IsLeft, AreCertain, HasDecayed, room, upto, upto_fence, is_erased}
 use Rattle.flash_keeper.specs.declared.keeper.OpenFault.{OpenFault}
 
 -- A bank whose head is whole but for its mark.
@@ -84,17 +84,28 @@ IsCause OpenFault.Sizes first second = first.size ≡ second.size → ⊥
 IsCause OpenFault.Small first second = ⊥
 IsCause OpenFault.Decayed first second = (first.size ≡ second.size) × ((choice : Choice) → IsStore first second choice → ⊥)
 
--- What a keeper over flash holds, and what an opening of its banks may find in place of its records.
+-- whether nothing but the records is in two banks: the log of the live one has as many cells as there are records, and each word of the spare one is
+-- erased
+abbrev pub are_purged : Bank → Bank → ℕ → Bool
+are_purged live spare n = (len (upto live.words n) == n) && is_erased spare
+
+-- Two banks in which nothing but these records is left: each cell of the log of the live one has another of them, and the spare one is erased.
+pub record ArePurged (live spare : Bank) (records : Records) : Type 0 where
+  pub certain : AreCertain live.words (len records)
+  pub all : upto live.words (len records) ≡ records
+  pub firm : spare.torn ≡ false
+  pub blank : (i : ℕ) → i < spare.size → spare.words i ≡ Some erased
+
+-- What a keeper over flash holds, what an opening of its banks may find in place of its records, and whether nothing but its records is in them.
 pub record FlashStore : Type 0 where
   pub store : Store
   pub left : Records
+  pub purged : Bool
 
 abbrev pub flash_store_code : Coded FlashStore
-flash_store_code = code_by (Store × Records) (coded× store_code (code coded_ℕ (coded_list coded_ℕ))) (λ s. (s.store, s.left)) (λ p. record {
-  store = p.0;
-  left
-      = p.1;
-}) (λ _. refl)
+flash_store_code =
+    code_by (Store × (Records × Bool)) (coded× store_code (coded× (code coded_ℕ (coded_list coded_ℕ)) coded_bool)) (λ s. (s.store, (s.left, s.purged)))
+    (λ p. record { store = p.0; left = p.1.0; purged = p.1.1 }) (λ _. refl)
 
 -- what a keeper holds that was opened: one of these records, and no other opening will find others
 pub record IsOpened (choice : Choice) (keeper : FlashStore) : Type 0 where
@@ -113,7 +124,30 @@ IsLeftBy old slot octets false new = (new.left ≡ old.left) ⊎ (new.left ≡ o
 abbrev pub choice_of : Bank → ℕ → Choice
 choice_of bank n = record { old = upto bank.words n; new = upto_fence bank.words n }
 
--- what holds of a keeper: its banks are left so, and nothing is open where it has not failed
-pub record IsKept (live spare : Bank) (n : ℕ) (failed : Bool) : Type 0 where
+-- The spare bank is a whole copy of the log of the live one, with so many cells.
+pub record IsCopy (live spare : Bank) (n cells : ℕ) : Type 0 where
+  pub number : IsNumbered spare
+  pub mark : spare.words 2 ≡ Some 0
+  pub log : IsSettled spare cells
+  pub stands : IsOneOf (choice_of live n) (upto spare.words cells)
+
+-- What is known of two banks at any moment: what is left of them, and that the spare one is a whole copy where one was made, and the live one not
+-- retired then.
+pub record AreHeld (live spare : Bank) (n : ℕ) (copied : Option ℕ) : Type 0 where
+  pub sizes : live.size ≡ spare.size
   pub left : AreLeft live spare n (choice_of live n)
-  pub ready : OnFalse failed (AreReady live spare n)
+  pub copy : (cells : ℕ) → copied ≡ Some cells → IsCopy live spare n cells
+
+-- what holds of a keeper: its banks are held so, and nothing is open where it has not failed
+pub record IsKept (live spare : Bank) (n : ℕ) (copied : Option ℕ) (failed : Bool) : Type 0 where
+  pub held : AreHeld live spare n copied
+  pub ready : OnFalse failed (AreReady live spare n × (copied ≡ None))
+
+-- the records that a log stands for are among these, also with the cell after it
+abbrev pub AreAmong : Choice → Bank → ℕ → Type 0
+AreAmong choice bank n = IsOneOf choice (upto bank.words n) × IsOneOf choice (upto_fence bank.words n)
+
+-- what a reopening left: one of what an opening might have found before, as an opening may find now
+pub record IsLeftOpen (old new : FlashStore) : Type 0 where
+  pub records : IsOneOf (record { old = old.store.records; new = old.left }) new.store.records
+  pub left : IsOneOf (record { old = old.store.records; new = old.left }) new.left

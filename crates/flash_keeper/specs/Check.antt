@@ -1,4 +1,4 @@
--- The check of a cell: a residue, which tells each change within one octet.
+-- The check of a cell: a residue, which shows each change within one octet.
 use Rattle.std.specs.Prelude.{◌≡◌, ℕ, ◌+◌, ◌*◌, ◌%◌, ◌<◌, List, ◌++◌, ◌∷◌}
 use Rattle.std.specs.List.{fold}
 use Rattle.flash_keeper.specs.declared.check.TheConstants.{MODULUS}

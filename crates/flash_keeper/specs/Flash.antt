@@ -50,6 +50,7 @@ pub record Erases (ok : Bool) (old new : Bank) : Type 0 where
       → (new ≡ old) ⊎ ((new.torn ≡ true) × (new.words ≡ old.words)) ⊎ ((new.torn ≡ false) × ((i : ℕ) → new.words i ≡ Some erased))
   pub size : new.size ≡ old.size
 
--- a bank of which each word is erased
-abbrev pub IsBlank : Bank → Type 0
-IsBlank bank = (i : ℕ) → bank.words i ≡ Some erased
+-- A bank of which each word is erased, and reads so each time.
+pub record IsBlank (bank : Bank) : Type 0 where
+  pub firm : bank.torn ≡ false
+  pub blank : (i : ℕ) → bank.words i ≡ Some erased

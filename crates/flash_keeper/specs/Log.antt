@@ -61,6 +61,15 @@ abbrev pub begun : Word → Bool
 begun (Some n) = not (n == erased)
 begun None = true
 
+-- whether each of the first n words is erased
+unfoldable pub are_erased : (ℕ → Word) → ℕ → Bool
+are_erased words zero = true
+are_erased words (suc n) = are_erased words n && not (begun (words n))
+
+-- whether each word of a bank is erased, and reads so each time
+abbrev pub is_erased : Bank → Bool
+is_erased bank = not bank.torn && are_erased bank.words bank.size
+
 -- a cell counts where the program of its mark was begun
 abbrev pub counts : (ℕ → Word) → ℕ → Bool
 counts words k = begun (words (mark k))
@@ -195,5 +204,6 @@ pub record IsShort (bank : Bank) (n at : ℕ) (choice : Choice) : Type 0 where
   pub more : 0 < at
   pub certain : AreCertain bank.words (at - 1)
   pub within : at - 1 ≤ room bank.size
+  pub same : upto bank.words (at - 1) ≡ upto bank.words n
   pub stands : IsOneOf choice (upto bank.words (at - 1))
   pub left : IsLeft bank n choice

@@ -2,7 +2,7 @@
 ghost use Rattle.std.specs.Prelude.{◌≡◌, ◌<◌, ◌≤◌, ◌+◌, ◌^◌, ◌/◌, true, false, OnOk, OnErr, IfOk, is_ok, Some, ◌⊎◌, take, drop, length, ℕ, ◌*◌};
 ghost use Rattle.std.specs.Prelude.{◌-◌};
 ghost use Rattle.std.specs.FinMap as map;
-ghost use Rattle.std.specs.FinMap.{insert};
+ghost use Rattle.std.specs.FinMap.{insert, len};
 ghost use Rattle.byteorder.specs.Endian.{big_bytes};
 ghost use Rattle.flash_keeper.specs.Flash.{erased, Programs};
 ghost use Rattle.flash_keeper.specs.Log.{place, mark, fence, close, room, low_at, slot_at, length_at, octets_from, octets_at, IsWhole, AreCertain};
@@ -345,10 +345,12 @@ fn copy_cell<B: FlashBank>(
     requires certain { AreCertain (B.bank from.now).words cells }
     requires settled { IsSettled (B.bank to.old) next }
     requires records { upto (B.bank to.old).words next ≡ kept (B.bank from.now).words cells cell }
+    requires each { len (kept (B.bank from.now).words cells cell) ≡ next }
     requires room { cells ≤ room (B.bank to.old).size }
     requires few { next ≤ cell }
     ensures settled { IfOk result (λ n. IsSettled (B.bank to.new) n) }
     ensures records { IfOk result (λ n. upto (B.bank to.new).words n ≡ kept (B.bank from.now).words cells (cell + 1)) }
+    ensures each { IfOk result (λ n. len (kept (B.bank from.now).words cells (cell + 1)) ≡ n) }
     ensures few { IfOk result (λ n. n ≤ cell + 1) }
     ensures firm { (B.bank to.new).torn ≡ false }
     ensures heads { SameBelow 3 (B.bank to.old) (B.bank to.new) }
@@ -379,6 +381,7 @@ pub fn copy<B: FlashBank>(from: &B, cells: usize, to: &mut B) -> Result<usize, F
     requires room { cells ≤ room (B.bank to.old).size }
     ensures settled { IfOk result (λ n. IsSettled (B.bank to.new) n) }
     ensures records { IfOk result (λ n. upto (B.bank to.new).words n ≡ upto (B.bank from.now).words cells) }
+    ensures each { IfOk result (λ n. len (upto (B.bank to.new).words n) ≡ n) }
     ensures firm { (B.bank to.new).torn ≡ false }
     ensures heads { SameBelow 3 (B.bank to.old) (B.bank to.new) }
     ensures size { (B.bank to.new).size ≡ (B.bank to.old).size }

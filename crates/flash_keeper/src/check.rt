@@ -1,4 +1,4 @@
-//! The check of a cell: a residue, which tells each change within one octet.
+//! The check of a cell: a residue, which shows each change within one octet.
 ghost use Rattle.std.specs.Prelude.{◌≡◌, ◌<◌, ◌^◌};
 ghost use Rattle.flash_keeper.specs.Check.{residue_of, check_of};
 

@@ -4,7 +4,7 @@ ghost use Rattle.std.specs.FinMap.{insert};
 ghost use Rattle.std.specs.FinMap as map;
 ghost use Rattle.plc_base.specs.Keeper.{IsSlot, Puts};
 ghost use Rattle.flash_keeper.specs.Log.{Choice, IsLeft, room};
-ghost use Rattle.flash_keeper.specs.Banks.{AreLeft, IsStore, IsCause, IsOpened, IsLeftBy, IsDecayed, MayOpen, FlashStore};
+ghost use Rattle.flash_keeper.specs.Banks.{AreLeft, ArePurged, IsStore, IsCause, IsOpened, IsLeftBy, IsLeftOpen, IsDecayed, MayOpen, FlashStore};
 ghost use Rattle.flash_keeper.specs.Flash.{IsBlank};
 
 use crate::bank::FlashBank;
@@ -36,8 +36,8 @@ pub enum OpenFault {
 
 /// A keeper over two banks of NOR flash.
 ///
-/// A contract sees what it holds, and what an opening of its banks may find in place of that. After `Failed` it holds the records from before, and each
-/// further put fails, until its banks are opened again.
+/// A contract sees what it holds, what an opening of its banks may find in place of that, and whether nothing but its records is left in them. After
+/// `Failed` it holds the records from before, and each further put fails, until it is reopened.
 #[derive(Drop)]
 pub struct FlashKeeper<B: FlashBank + Drop> {
     pair: Pair<B>,
@@ -48,7 +48,7 @@ pub struct FlashKeeper<B: FlashBank + Drop> {
 impl<B: FlashBank + Drop> Model for FlashKeeper<B> {
     ghost use Rattle.std.specs.Prelude.{None};
     ghost use Rattle.flash_keeper.specs.Log.{upto, upto_fence};
-    ghost use Rattle.flash_keeper.specs.Banks.{FlashStore, flash_store_code, IsKept};
+    ghost use Rattle.flash_keeper.specs.Banks.{FlashStore, flash_store_code, IsKept, are_purged};
 
     ghost Value = { FlashStore };
 
@@ -57,9 +57,10 @@ impl<B: FlashBank + Drop> Model for FlashKeeper<B> {
     ghost view = { λ k. record {
       store = record { records = upto (B.bank k.pair.live).words k.pair.next; faults = k.faults; known_cut = None; listed = None };
       left = upto_fence (B.bank k.pair.live).words k.pair.next;
+      purged = are_purged (B.bank k.pair.live) (B.bank k.pair.spare) k.pair.next;
     } };
 
-    ghost invariant = { λ k. IsKept (B.bank k.pair.live) (B.bank k.pair.spare) k.pair.next k.failed };
+    ghost invariant = { λ k. IsKept (B.bank k.pair.live) (B.bank k.pair.spare) k.pair.next k.pair.copied k.failed };
 }
 
 impl<B: FlashBank + Drop> FlashKeeper<B> {
@@ -69,10 +70,11 @@ impl<B: FlashBank + Drop> FlashKeeper<B> {
     /// It gives the banks back with its fault: [`OpenFault::Sizes`] where they have different sizes, or [`OpenFault::Small`] where a bank has fewer
     /// than two cells for each slot, and then nothing was done; or [`OpenFault::Flash`] where a program or an erase failed, and then they are to
     /// be formatted again. A bank with hardly more cells than records would be erased at each put, and worn out in months.
-    #[tactic(auto, using(crate::proofs::KeeperLemmas::kept_of_ready, crate::proofs::KeeperLemmas::kept_of_left, crate::proofs::KeeperLemmas::nothing_else))]
+    #[tactic(auto, using(crate::proofs::KeeperLemmas::kept_of_ready, crate::proofs::KeeperLemmas::kept_of_held, crate::proofs::KeeperLemmas::nothing_else))]
     pub fn format(first: B, second: B, slots: usize) -> Result<FlashKeeper<B>, (OpenFault, B, B)>
-        ensures ok { IfOk result (λ keeper. keeper
-            ≡ record { store = record { records = map.empty; faults = 0; known_cut = None; listed = None }; left = map.empty }) }
+        ensures ok { IfOk result (λ keeper. keeper.store ≡ record { records = map.empty; faults = 0; known_cut = None; listed = None }) }
+        ensures left { IfOk result (λ keeper. keeper.left ≡ map.empty) }
+        ensures purged { IfOk result (λ keeper. keeper.purged ≡ true) }
         ensures sizes { IfOk result (λ keeper. (B.bank first).size ≡ (B.bank second).size) }
         ensures cells { IfOk result (λ keeper. slots ≤ room (B.bank first).size / 2) }
         ensures fault { IfErr result (λ e. ((e.0 ≡ OpenFault.Small) × (room (B.bank first).size / 2 < slots)) ⊎ IsCause e.0 (B.bank first) (B.bank second)) }
@@ -89,6 +91,7 @@ impl<B: FlashBank + Drop> FlashKeeper<B> {
             spare: second,
             next: 0,
             generation: 1,
+            copied: None,
         };
         let Ok(()) = pair.format() else {
             return Err((OpenFault::Flash, pair.live, pair.spare));
@@ -101,7 +104,7 @@ impl<B: FlashBank + Drop> FlashKeeper<B> {
     }
 
     // Settles two banks, of which the first one read as live, unless a cell of it has decayed.
-    #[tactic(auto, using(crate::proofs::KeeperLemmas::kept_of_ready, crate::proofs::KeeperLemmas::kept_of_left, crate::proofs::KeeperLemmas::nothing_else))]
+    #[tactic(auto, using(crate::proofs::KeeperLemmas::kept_of_ready, crate::proofs::KeeperLemmas::kept_of_held, crate::proofs::KeeperLemmas::nothing_else))]
     fn settled(live: B, spare: B, generation: u64) -> Result<FlashKeeper<B>, (OpenFault, B, B)>
         requires left { ((c : Choice) × (n : ℕ) × AreLeft (B.bank live) (B.bank spare) n c) ⊎ IsDecayed (B.bank live) (B.bank spare) }
         requires sizes { (B.bank live).size ≡ (B.bank spare).size }
@@ -122,6 +125,7 @@ impl<B: FlashBank + Drop> FlashKeeper<B> {
             spare,
             next: 0,
             generation,
+            copied: None,
         };
         let Ok(()) = pair.settle() else {
             return Err((OpenFault::Flash, pair.live, pair.spare));
@@ -177,8 +181,36 @@ impl<B: FlashBank + Drop> FlashKeeper<B> {
         FlashKeeper::settled(first, second, earlier)
     }
 
-    /// Erases two banks, for a device that leaves service: then no word of them, and so no key, is left (`blank`). It gives the banks back; with
-    /// an error where an erase failed, and then words may be left, so it is to be called again.
+    /// Opens the store again in the same banks, after a failed put or purge, and settles what that left: then it holds what it held, or what an opening
+    /// might have found in place of that (`among`), and puts go on. It reads no head: what it knows of its banks is not lost.
+    ///
+    /// - [`OpenFault::Flash`] where a program or an erase failed: call it again;
+    /// - [`OpenFault::Decayed`] where a cell of the bank in use has decayed, as `open` does; nothing was programmed. No clause speaks of that, since no bit
+    ///   of a keeper's banks changes by itself in the model.
+    ///
+    /// With a fault it holds one of the two still, an opening finds one of the two (`among`), and each further put fails.
+    #[tactic(auto, using(crate::proofs::KeeperLemmas::kept_of_ready, crate::proofs::KeeperLemmas::kept_of_held, crate::proofs::KeeperLemmas::nothing_else))]
+    pub fn reopen(&mut self) -> Result<(), OpenFault>
+        ensures among { IsLeftOpen self.old self.new }
+        ensures opened { OnOk result (self.new.left ≡ self.new.store.records) }
+        ensures faults { self.new.store.faults ≡ self.old.store.faults }
+        ensures known_cut { self.new.store.known_cut ≡ self.old.store.known_cut }
+        ensures listed { self.new.store.listed ≡ self.old.store.listed }
+        ensures fault { IfErr result (λ e. e ≡ OpenFault.Flash) }
+    {
+        self.failed = true;
+        if has_decayed(&self.pair.live) {
+            return Err(OpenFault::Decayed);
+        }
+        let Ok(()) = self.pair.reopen() else {
+            return Err(OpenFault::Flash);
+        };
+        self.failed = false;
+        Ok(())
+    }
+
+    /// Erases two banks, for a device that leaves service: then no word of them, and so no key, is left, however often it is read (`blank`). It gives the
+    /// banks back; with an error where a program or an erase failed, and then words may be left, so it is to be called again.
     pub fn wipe(first: B, second: B) -> Result<(B, B), (B, B)>
         ensures blank { IfOk result (λ banks. IsBlank (B.bank banks.0) × IsBlank (B.bank banks.1)) }
         ensures failed { IfErr result (λ banks. (B.has_failed banks.0 ≡ true) ⊎ (B.has_failed banks.1 ≡ true)) }
@@ -194,12 +226,13 @@ impl<B: FlashBank + Drop> FlashKeeper<B> {
         Ok((first, second))
     }
 
-    /// Copies the records to the other bank, and erases the one that was used: then no record that was replaced, and so no key that was given up, is
-    /// left in flash. It costs two erases: call it after a device has left or was given other keys, and not at each put.
+    /// Copies the records to the other bank, and erases the one that was used: then nothing but these records, and so no key that was given up, is
+    /// left in flash (`purged`). It costs two erases: call it after a device has left or was given other keys, and not at each put.
     ///
     /// After `Failed` it holds the records from before, as an opening of its banks does (`left`); each further put and purge fails.
-    #[tactic(auto, using(crate::proofs::KeeperLemmas::kept_of_ready, crate::proofs::KeeperLemmas::kept_of_left, crate::proofs::KeeperLemmas::nothing_else))]
+    #[tactic(auto, using(crate::proofs::KeeperLemmas::kept_of_ready, crate::proofs::KeeperLemmas::kept_of_held, crate::proofs::KeeperLemmas::nothing_else))]
     pub fn purge(&mut self) -> Result<(), Failed>
+        ensures purged { OnOk result (self.new.purged ≡ true) }
         ensures same { self.new.store.records ≡ self.old.store.records }
         ensures faults { self.new.store.faults ≡ self.old.store.faults }
         ensures known_cut { self.new.store.known_cut ≡ self.old.store.known_cut }
@@ -225,15 +258,17 @@ impl<B: FlashBank + Drop> FlashKeeper<B> {
         &self.pair.live
     }
 
-    /// The banks, to be opened again: they stand for the records that it holds, or those that are left of a failed put.
+    /// The banks, to be opened again: they stand for the records that it holds, or those that are left of a failed put. After a purge nothing else is in
+    /// them: the first one has a cell for each record, and of the second one each word is erased.
     pub fn into_banks(self) -> (B, B)
-        ensures { IsStore (B.bank result.0) (B.bank result.1) (record { old = self.store.records; new = self.left }) }
+        ensures store { IsStore (B.bank result.0) (B.bank result.1) (record { old = self.store.records; new = self.left }) }
+        ensures purged { self.purged ≡ true → ArePurged (B.bank result.0) (B.bank result.1) self.store.records }
     {
         (self.pair.live, self.pair.spare)
     }
 
     // Writes a record to flash.
-    #[tactic(auto, using(crate::proofs::KeeperLemmas::kept_of_ready, crate::proofs::KeeperLemmas::kept_of_left, crate::proofs::KeeperLemmas::nothing_else))]
+    #[tactic(auto, using(crate::proofs::KeeperLemmas::kept_of_ready, crate::proofs::KeeperLemmas::kept_of_held, crate::proofs::KeeperLemmas::nothing_else))]
     fn write(&mut self, slot: u32, octets: &Record) -> Result<(), Failed>
         requires more { 0 < slot }
         requires fits { slot < 2 ^ 16 }

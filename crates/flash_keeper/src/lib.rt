@@ -14,7 +14,7 @@
 //!   ([`laws::a_slot_has_what_was_put`]).
 //! - All this holds however a torn word reads, and if it reads otherwise each time. No check sum is part of the argument.
 //! - Where bits have changed by themselves since, an opening answers [`OpenFault::Decayed`] or [`OpenFault::NoStore`], and no older record, as far as
-//!   the check of each cell tells (below). Of a store whose words are as they were written it never answers `Decayed`.
+//!   the check of each cell shows (below). Of a store whose words are as they were written it never answers `Decayed`.
 //! - A torn erase may leave any word of a bank as it was, the head too. So a bank is retired before it is erased, and before the store goes on
 //!   with the copy of it: its head is then 0 in each bit. One premise is left (`from_zero`): where a torn erase met such a word, it does not read
 //!   as the head of a store. Of its 64 bits just 20 would have to rise before each of the others: one order in 1.9 * 10^16.
@@ -43,8 +43,9 @@
 //!
 //! # After a failed put
 //!
-//! The keeper answers each get as before, and fails each further put. Whoever has it drops what stands on it, takes the banks
-//! ([`FlashKeeper::into_banks`]) and opens them and the node anew. A `restart` of a node over the same keeper does not do: its puts fail.
+//! The keeper answers each get as before, and fails each further put. [`FlashKeeper::reopen`] settles in the same banks what the put left, and says
+//! whether the old record or the new one counts; then the node is restarted over it. Or whoever has it takes the banks ([`FlashKeeper::into_banks`]) and
+//! opens them anew. A `restart` alone does not do: its puts fail.
 //!
 //! # Where power fails in a put
 //!
@@ -57,13 +58,13 @@
 //!
 //! One case is left in which it copies the log without the cell: the fence and the close read as begun, and the mark does not. For that power has to
 //! fail in the program of the fence and again in an opening that read it as not begun, in the one program of the close. No words could decide that case
-//! in place for every row of losses of power. In 88,000 openings with a bouncing supply (11 places of the cut, 8 kinds of torn words) it came 3 times.
+//! in place for every row of losses of power. In 86,000 openings at a bouncing supply, after a cut at each of 11 places, it came twice.
 //!
 //! # Figures
 //!
 //! | | |
 //! |---|---|
-//! | RAM | two [`FlashBank`] objects and 32 octets (24 on a 32-bit machine); no table of slots, no buffer that stays, no allocation |
+//! | RAM | two [`FlashBank`] objects and 48 octets (32 to 40 on a 32-bit machine); no table of slots, no buffer that stays, no allocation |
 //! | flash, per bank | 24 octets, and 96 for each put until the bank is full |
 //! | a put | 3 programs of slot, fence and mark, and one for each 8 octets of the record: 11 at most |
 //! | an opening | 2 programs, and one cell; one program more after a cut in a fence; 3 more in the first one after a bank was copied, which are of heads |

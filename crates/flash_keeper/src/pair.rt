@@ -1,10 +1,10 @@
 //! Two banks: the live one with the log, and the spare one to which the log is copied when it is full.
-ghost use Rattle.std.specs.Prelude.{◌≡◌, ◌<◌, ◌≤◌, ◌+◌, ◌⊎◌, ℕ, OnOk, OnErr, IfOk, Some, true, false, is_ok, ◌^◌};
+ghost use Rattle.std.specs.Prelude.{◌≡◌, ◌<◌, ◌≤◌, ◌+◌, ◌⊎◌, ℕ, OnOk, OnErr, IfOk, Some, None, true, false, is_ok, ◌^◌};
 ghost use Rattle.std.specs.FinMap as map;
-ghost use Rattle.std.specs.FinMap.{insert};
+ghost use Rattle.std.specs.FinMap.{insert, len};
 ghost use Rattle.flash_keeper.specs.Flash.{erased, IsBlank, Programs};
 ghost use Rattle.flash_keeper.specs.Log.{room, upto, upto_fence, Choice, IsOneOf, IsSettled, IsLeft, IsClosable, AreCertain, SameBelow, AreDecided};
-ghost use Rattle.flash_keeper.specs.Banks.{choice_of, AreLeft, AreReady, IsStore, IsLive, IsHeaded, IsDead, IsSeen, IsNumbered};
+ghost use Rattle.flash_keeper.specs.Banks.{choice_of, AreLeft, AreReady, AreHeld, AreAmong, IsStore, IsLive, IsHeaded, IsDead, IsSeen, IsNumbered};
 
 use crate::bank::{FlashBank, HEAD, is_programmed};
 use crate::cells::{close_cell, copy, first_blank, room_of, settle_before, write_cell};
@@ -25,6 +25,8 @@ pub struct Pair<B: FlashBank + Drop> {
     pub next: usize,
     /// The number of the live bank, higher than that of the one before it.
     pub generation: u64,
+    /// How many cells the spare bank has where it is a whole copy, beside which the live one was not retired.
+    pub copied: Option<usize>,
 }
 
 /// The generation of a bank that reads as a live one.
@@ -76,7 +78,6 @@ fn is_noted<B: FlashBank>(bank: &B) -> bool
 
 /// Retires a bank, and erases it.
 pub fn wipe<B: FlashBank>(bank: &mut B) -> Result<(), Failed>
-    ensures firm { OnOk result ((B.bank bank.new).torn ≡ false) }
     ensures blank { OnOk result (IsBlank (B.bank bank.new)) }
     ensures dead { IsDead (B.bank bank.old) → OnErr result (IsDead (B.bank bank.new)) }
     ensures size { (B.bank bank.new).size ≡ (B.bank bank.old).size }
@@ -116,6 +117,7 @@ fn copy_to<B: FlashBank>(
     ensures head { IfOk result (λ n. IsHeaded (B.bank to.new) generation) }
     ensures log { IfOk result (λ n. IsSettled (B.bank to.new) n) }
     ensures records { IfOk result (λ n. upto (B.bank to.new).words n ≡ upto (B.bank from.now).words cells) }
+    ensures each { IfOk result (λ n. len (upto (B.bank to.new).words n) ≡ n) }
     ensures dead { OnErr result (IsDead (B.bank to.new)) }
     ensures failed { OnErr result (B.has_failed to.new ≡ true) }
     ensures size { (B.bank to.new).size ≡ (B.bank to.old).size }
@@ -125,60 +127,90 @@ fn copy_to<B: FlashBank>(
 }
 
 impl<B: FlashBank + Drop> Pair<B> {
-    // Copies the records to the spare bank, which is then the live one, and retires the one that was.
-    fn rewrite(&mut self) -> Result<(), Failed>
+    // Retires the live bank, of whose log the spare one is a copy with so many cells, and goes on with that.
+    fn hand_over(&mut self, cells: usize, generation: u64) -> Result<(), Failed>
+        ensures live { OnOk result (B.bank self.new.live ≡ B.bank self.old.spare) }
+        ensures spare { OnOk result (Programs 0 0 true (B.bank self.old.live) (B.bank self.new.spare)) }
+        ensures next { OnOk result (self.new.next ≡ cells) }
+        ensures generation { OnOk result (self.new.generation ≡ generation) }
+        ensures copied { OnOk result (self.new.copied ≡ None) }
+        ensures same_spare { OnErr result (B.bank self.new.spare ≡ B.bank self.old.spare) }
+        ensures same_live { OnErr result (Programs 0 0 false (B.bank self.old.live) (B.bank self.new.live)) }
+        ensures same_next { OnErr result (self.new.next ≡ self.old.next) }
+        ensures same_copied { OnErr result (self.new.copied ≡ self.old.copied) }
+        ensures failed { OnErr result ((B.has_failed self.new.live ≡ true) ⊎ (B.has_failed self.new.spare ≡ true)) }
+    {
+        retire(&mut self.live)?;
+        swap(&mut self.live, &mut self.spare);
+        self.next = cells;
+        self.generation = generation;
+        self.copied = None;
+        Ok(())
+    }
+
+    // Copies the records of the first cells to the spare bank, which is then the live one, and retires the one that was.
+    fn rewrite(&mut self, cells: usize) -> Result<(), Failed>
         requires number { IsNumbered (B.bank self.old.live) }
         requires mark { (B.bank self.old.live).words 2 ≡ Some 0 }
-        requires within { self.old.next ≤ room (B.bank self.old.live).size }
-        requires certain { AreCertain (B.bank self.old.live).words self.old.next }
+        requires within { cells ≤ room (B.bank self.old.live).size }
+        requires certain { AreCertain (B.bank self.old.live).words cells }
         requires spare { IsDead (B.bank self.old.spare) }
         requires sizes { (B.bank self.old.live).size ≡ (B.bank self.old.spare).size }
+        requires fresh { self.old.copied ≡ None }
         ensures ready { OnOk result (AreReady (B.bank self.new.live) (B.bank self.new.spare) self.new.next) }
+        ensures fresh { OnOk result (self.new.copied ≡ None) }
         ensures head { OnOk result (IsLive (B.bank self.new.live) self.new.generation) }
         ensures later { OnOk result (self.old.generation + 1 < 2 ^ 64 → self.new.generation ≡ self.old.generation + 1) }
-        ensures records { OnOk result (upto (B.bank self.new.live).words self.new.next ≡ upto (B.bank self.old.live).words self.old.next) }
-        ensures same { OnErr result (upto (B.bank self.new.live).words self.new.next ≡ upto (B.bank self.old.live).words self.old.next) }
+        ensures records { OnOk result (upto (B.bank self.new.live).words self.new.next ≡ upto (B.bank self.old.live).words cells) }
+        ensures each { OnOk result (len (upto (B.bank self.new.live).words self.new.next) ≡ self.new.next) }
         ensures next { OnErr result (self.new.next ≡ self.old.next) }
-        ensures left { OnErr result ((n : ℕ) (c : Choice) → IsLeft (B.bank self.old.live) n c
-            → IsOneOf c (upto (B.bank self.old.live).words self.old.next) → AreLeft (B.bank self.new.live) (B.bank self.new.spare) n c) }
+        ensures left { OnErr result ((n : ℕ) (c : Choice) → IsLeft (B.bank self.old.live) n c → IsOneOf c (upto (B.bank self.old.live).words cells)
+            → AreLeft (B.bank self.new.live) (B.bank self.new.spare) n c) }
+        ensures held { OnErr result ((n : ℕ) (c : Choice) → IsLeft (B.bank self.old.live) n c
+            → IsOneOf (choice_of (B.bank self.old.live) n) (upto (B.bank self.old.live).words cells)
+            → AreHeld (B.bank self.new.live) (B.bank self.new.spare) n self.new.copied) }
+        ensures same { OnErr result ((i : ℕ) → 3 ≤ i → (B.bank self.new.live).words i ≡ (B.bank self.old.live).words i) }
         ensures failed { OnErr result ((B.has_failed self.new.live ≡ true) ⊎ (B.has_failed self.new.spare ≡ true)) }
     {
         let generation = self.generation.saturating_add(1);
-        let next = copy_to(&self.live, self.next, &mut self.spare, generation)?;
+        let next = copy_to(&self.live, cells, &mut self.spare, generation)?;
         confirm(&mut self.spare)?;
-        retire(&mut self.live)?;
-        swap(&mut self.live, &mut self.spare);
-        self.next = next;
-        self.generation = generation;
+        self.copied = Some(next);
+        self.hand_over(next, generation)?;
         Ok(())
     }
 
     /// Copies the records to the spare bank, and erases the one that was the live one: then no record that was replaced is left in either.
     pub fn purge(&mut self) -> Result<(), Failed>
-        requires { AreReady (B.bank self.old.live) (B.bank self.old.spare) self.old.next }
+        requires ready { AreReady (B.bank self.old.live) (B.bank self.old.spare) self.old.next }
+        requires fresh { self.old.copied ≡ None }
         ensures ready { OnOk result (AreReady (B.bank self.new.live) (B.bank self.new.spare) self.new.next) }
+        ensures fresh { OnOk result (self.new.copied ≡ None) }
         ensures blank { OnOk result (IsBlank (B.bank self.new.spare)) }
+        ensures each { OnOk result (len (upto (B.bank self.new.live).words self.new.next) ≡ self.new.next) }
         ensures records { upto (B.bank self.new.live).words self.new.next ≡ upto (B.bank self.old.live).words self.old.next }
-        ensures left { OnErr result (AreLeft (B.bank self.new.live) (B.bank self.new.spare) self.new.next (choice_of (B.bank self.new.live) self.new.next)) }
+        ensures held { OnErr result (AreHeld (B.bank self.new.live) (B.bank self.new.spare) self.new.next self.new.copied) }
         ensures found { OnErr result (upto_fence (B.bank self.new.live).words self.new.next ≡ upto (B.bank self.old.live).words self.old.next) }
     {
-        self.rewrite()?;
+        self.rewrite(self.next)?;
         wipe(&mut self.spare)
     }
 
     // Makes room for one more cell: where there is none, it copies the records to the spare bank.
     fn make_room(&mut self) -> Result<(), Failed>
-        requires { AreReady (B.bank self.old.live) (B.bank self.old.spare) self.old.next }
+        requires ready { AreReady (B.bank self.old.live) (B.bank self.old.spare) self.old.next }
+        requires fresh { self.old.copied ≡ None }
         ensures ready { OnOk result (AreReady (B.bank self.new.live) (B.bank self.new.spare) self.new.next) }
+        ensures fresh { OnOk result (self.new.copied ≡ None) }
         ensures room { OnOk result (self.new.next < room (B.bank self.new.live).size) }
         ensures records { upto (B.bank self.new.live).words self.new.next ≡ upto (B.bank self.old.live).words self.old.next }
-        ensures left { OnErr result ((c : Choice) → IsOneOf c (upto (B.bank self.old.live).words self.old.next)
-            → AreLeft (B.bank self.new.live) (B.bank self.new.spare) self.new.next c) }
+        ensures held { OnErr result (AreHeld (B.bank self.new.live) (B.bank self.new.spare) self.new.next self.new.copied) }
+        ensures found { OnErr result (upto_fence (B.bank self.new.live).words self.new.next ≡ upto (B.bank self.old.live).words self.old.next) }
     {
         if self.next < room_of(&self.live) {
             return Ok(());
         }
-        self.rewrite()?;
+        self.rewrite(self.next)?;
         if self.next < room_of(&self.live) {
             return Ok(());
         }
@@ -188,13 +220,15 @@ impl<B: FlashBank + Drop> Pair<B> {
     // Writes a record to the end of the log.
     fn append(&mut self, slot: u32, octets: &Record) -> Result<(), Failed>
         requires ready { AreReady (B.bank self.old.live) (B.bank self.old.spare) self.old.next }
+        requires fresh { self.old.copied ≡ None }
         requires more { 0 < slot }
         requires fits { slot < 2 ^ 16 }
         requires room { self.old.next < room (B.bank self.old.live).size }
         ensures ready { OnOk result (AreReady (B.bank self.new.live) (B.bank self.new.spare) self.new.next) }
-        ensures records { OnOk result (upto (B.bank self.new.live).words self.new.next ≡ insert (upto (B.bank self.old.live).words self.old.next) slot
-            octets.now) }
-        ensures left { OnErr result (AreLeft (B.bank self.new.live) (B.bank self.new.spare) self.new.next (choice_of (B.bank self.new.live) self.new.next)) }
+        ensures fresh { OnOk result (self.new.copied ≡ None) }
+        ensures records { OnOk result (upto (B.bank self.new.live).words self.new.next
+            ≡ insert (upto (B.bank self.old.live).words self.old.next) slot octets.now) }
+        ensures held { OnErr result (AreHeld (B.bank self.new.live) (B.bank self.new.spare) self.new.next self.new.copied) }
         ensures found { OnErr result ((upto_fence (B.bank self.new.live).words self.new.next ≡ upto (B.bank self.old.live).words self.old.next)
             ⊎ (upto_fence (B.bank self.new.live).words self.new.next ≡ insert (upto (B.bank self.old.live).words self.old.next) slot octets.now)) }
         ensures same { OnErr result (upto (B.bank self.new.live).words self.new.next ≡ upto (B.bank self.old.live).words self.old.next) }
@@ -207,12 +241,14 @@ impl<B: FlashBank + Drop> Pair<B> {
     /// Writes a record to the end of the log, and makes room for it before.
     pub fn put(&mut self, slot: u32, octets: &Record) -> Result<(), Failed>
         requires ready { AreReady (B.bank self.old.live) (B.bank self.old.spare) self.old.next }
+        requires fresh { self.old.copied ≡ None }
         requires more { 0 < slot }
         requires fits { slot < 2 ^ 16 }
         ensures ready { OnOk result (AreReady (B.bank self.new.live) (B.bank self.new.spare) self.new.next) }
-        ensures records { OnOk result (upto (B.bank self.new.live).words self.new.next ≡ insert (upto (B.bank self.old.live).words self.old.next) slot
-            octets.now) }
-        ensures left { OnErr result (AreLeft (B.bank self.new.live) (B.bank self.new.spare) self.new.next (choice_of (B.bank self.new.live) self.new.next)) }
+        ensures fresh { OnOk result (self.new.copied ≡ None) }
+        ensures records { OnOk result (upto (B.bank self.new.live).words self.new.next
+            ≡ insert (upto (B.bank self.old.live).words self.old.next) slot octets.now) }
+        ensures held { OnErr result (AreHeld (B.bank self.new.live) (B.bank self.new.spare) self.new.next self.new.copied) }
         ensures found { OnErr result ((upto_fence (B.bank self.new.live).words self.new.next ≡ upto (B.bank self.old.live).words self.old.next)
             ⊎ (upto_fence (B.bank self.new.live).words self.new.next ≡ insert (upto (B.bank self.old.live).words self.old.next) slot octets.now)) }
         ensures same { OnErr result (upto (B.bank self.new.live).words self.new.next ≡ upto (B.bank self.old.live).words self.old.next) }
@@ -231,6 +267,8 @@ impl<B: FlashBank + Drop> Pair<B> {
         ensures heads { SameBelow 3 (B.bank self.old.live) (B.bank self.new.live) }
         ensures size { (B.bank self.new.live).size ≡ (B.bank self.old.live).size }
         ensures spare { B.bank self.new.spare ≡ B.bank self.old.spare }
+        ensures copied { self.new.copied ≡ self.old.copied }
+        ensures next { OnErr result (self.new.next ≡ self.old.next) }
         ensures failed { OnErr result ((B.has_failed self.new.live ≡ true) ⊎ (B.has_failed self.new.spare ≡ true)) }
     {
         let room = room_of(&self.live);
@@ -250,20 +288,24 @@ impl<B: FlashBank + Drop> Pair<B> {
         requires log { (c : Choice) × (n : ℕ) × IsLeft (B.bank self.old.live) n c }
         requires spare { IsDead (B.bank self.old.spare) }
         requires sizes { (B.bank self.old.live).size ≡ (B.bank self.old.spare).size }
+        requires fresh { self.old.copied ≡ None }
         ensures ready { OnOk result (AreReady (B.bank self.new.live) (B.bank self.new.spare) self.new.next) }
+        ensures fresh { OnOk result (self.new.copied ≡ None) }
         ensures records { OnOk result ((c : Choice) (n : ℕ) → IsLeft (B.bank self.old.live) n c
             → IsOneOf c (upto (B.bank self.new.live).words self.new.next)) }
         ensures in_place { (c : Choice) (n : ℕ) → IsLeft (B.bank self.old.live) n c → AreDecided (B.bank self.old.live).words n
             → B.bank self.new.spare ≡ B.bank self.old.spare }
         ensures left { OnErr result ((c : Choice) (n : ℕ) → IsLeft (B.bank self.old.live) n c → IsStore (B.bank self.new.live) (B.bank self.new.spare) c) }
+        ensures held { OnErr result ((c : Choice) → IsLeft (B.bank self.old.live) self.old.next c
+            → AreHeld (B.bank self.new.live) (B.bank self.new.spare) self.new.next self.new.copied × AreAmong c (B.bank self.new.live) self.new.next) }
         ensures failed { OnErr result ((B.has_failed self.new.live ≡ true) ⊎ (B.has_failed self.new.spare ≡ true)) }
     {
         let at = first_blank(&self.live);
         let sure = settle_before(&mut self.live, at)?;
         if !sure {
-            self.next = at - 1;
-            return self.rewrite();
+            return self.rewrite(at - 1);
         }
+        self.next = at;
         self.finish_at(at)
     }
 
@@ -281,6 +323,8 @@ impl<B: FlashBank + Drop> Pair<B> {
         ensures others { (i : ℕ) → 2 ≤ i → (B.bank self.new.spare).words i ≡ (B.bank self.old.spare).words i }
         ensures live_size { (B.bank self.new.live).size ≡ (B.bank self.old.live).size }
         ensures spare_size { (B.bank self.new.spare).size ≡ (B.bank self.old.spare).size }
+        ensures next { self.new.next ≡ self.old.next }
+        ensures copied { self.new.copied ≡ self.old.copied }
         ensures failed { OnErr result ((B.has_failed self.new.live ≡ true) ⊎ (B.has_failed self.new.spare ≡ true)) }
     {
         if is_noted(&self.spare) {
@@ -296,24 +340,50 @@ impl<B: FlashBank + Drop> Pair<B> {
     pub fn settle(&mut self) -> Result<(), Failed>
         requires left { (c : Choice) × (n : ℕ) × AreLeft (B.bank self.old.live) (B.bank self.old.spare) n c }
         requires sizes { (B.bank self.old.live).size ≡ (B.bank self.old.spare).size }
+        requires fresh { self.old.copied ≡ None }
         ensures ready { OnOk result (AreReady (B.bank self.new.live) (B.bank self.new.spare) self.new.next) }
+        ensures fresh { OnOk result (self.new.copied ≡ None) }
         ensures records { OnOk result ((n : ℕ) (c : Choice) → AreLeft (B.bank self.old.live) (B.bank self.old.spare) n c
             → IsOneOf c (upto (B.bank self.new.live).words self.new.next)) }
         ensures in_place { (n : ℕ) (c : Choice) → AreLeft (B.bank self.old.live) (B.bank self.old.spare) n c → AreDecided (B.bank self.old.live).words n
             → (i : ℕ) → 2 ≤ i → (B.bank self.new.spare).words i ≡ (B.bank self.old.spare).words i }
         ensures left { OnErr result ((n : ℕ) (c : Choice) → AreLeft (B.bank self.old.live) (B.bank self.old.spare) n c
             → IsStore (B.bank self.new.live) (B.bank self.new.spare) c) }
+        ensures held { OnErr result (AreLeft (B.bank self.old.live) (B.bank self.old.spare) self.old.next (choice_of (B.bank self.old.live) self.old.next)
+            → AreHeld (B.bank self.new.live) (B.bank self.new.spare) self.new.next self.new.copied
+            × AreAmong (choice_of (B.bank self.old.live) self.old.next) (B.bank self.new.live) self.new.next) }
         ensures failed { OnErr result ((B.has_failed self.new.live ≡ true) ⊎ (B.has_failed self.new.spare ≡ true)) }
     {
         self.part()?;
         self.finish()
     }
 
+    /// Makes certain what a failed program or erase left of the banks, of which it is known how many cells are certain. Where only the retirement of a
+    /// bank failed whose copy is whole, it goes on with the copy.
+    pub fn reopen(&mut self) -> Result<(), Failed>
+        requires { AreHeld (B.bank self.old.live) (B.bank self.old.spare) self.old.next self.old.copied }
+        ensures ready { OnOk result (AreReady (B.bank self.new.live) (B.bank self.new.spare) self.new.next) }
+        ensures fresh { OnOk result (self.new.copied ≡ None) }
+        ensures records { OnOk result (IsOneOf (choice_of (B.bank self.old.live) self.old.next) (upto (B.bank self.new.live).words self.new.next)) }
+        ensures held { OnErr result (AreHeld (B.bank self.new.live) (B.bank self.new.spare) self.new.next self.new.copied) }
+        ensures among { OnErr result (AreAmong (choice_of (B.bank self.old.live) self.old.next) (B.bank self.new.live) self.new.next) }
+    {
+        let Some(cells) = self.copied else {
+            return self.settle();
+        };
+        self.hand_over(cells, self.generation.saturating_add(1))?;
+        Ok(())
+    }
+
     /// Retires and erases both banks, and makes the live one a store with no record.
     pub fn format(&mut self) -> Result<(), Failed>
-        requires { (B.bank self.old.live).size ≡ (B.bank self.old.spare).size }
+        requires sizes { (B.bank self.old.live).size ≡ (B.bank self.old.spare).size }
+        requires fresh { self.old.copied ≡ None }
         ensures ready { OnOk result (AreReady (B.bank self.new.live) (B.bank self.new.spare) self.new.next) }
+        ensures fresh { OnOk result (self.new.copied ≡ None) }
         ensures records { OnOk result (upto (B.bank self.new.live).words self.new.next ≡ map.empty) }
+        ensures next { OnOk result (self.new.next ≡ 0) }
+        ensures blank { OnOk result (IsBlank (B.bank self.new.spare)) }
         ensures failed { OnErr result ((B.has_failed self.new.live ≡ true) ⊎ (B.has_failed self.new.spare ≡ true)) }
     {
         wipe(&mut self.spare)?;

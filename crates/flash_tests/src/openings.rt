@@ -95,3 +95,24 @@ fn a_put_cut_short_costs_no_erase(rt: HostRuntime) -> Result<(), Fail> {
     }
     Ok(())
 }
+
+// Whether a keeper whose put failed is reopened in its own banks, and then takes a put.
+fn goes_on(mut keeper: Store) -> bool {
+    let Ok(()) = keeper.reopen() else {
+        return false;
+    };
+    keeper.put(1, &Record::from_octets(&[3; 20])).is_ok()
+}
+
+#[test]
+fn a_put_cut_short_is_reopened(rt: HostRuntime) -> Result<(), Fail> {
+    for how in HOW {
+        for nth in 12..18 {
+            let Some(keeper) = cut_short(rt.alloc(), nth, how)? else {
+                return Err(Fail::from("not cut short"));
+            };
+            assert!(rt; goes_on(keeper));
+        }
+    }
+    Ok(())
+}

@@ -1,4 +1,5 @@
 use Rattle.std.proofs.Common.{◌≡◌, ◌≤◌, ◌-◌, false}
+use Rattle.std.specs.FinMap.{len}
 use Rattle.flash_keeper.specs.Log.{upto, kept, IsSettled, SameBelow}
 use Rattle.flash_keeper.proofs.cells.copy.Given as goal
 
@@ -10,6 +11,7 @@ invariant-loop-cell g l =
     record {
       settled : IsSettled new l.next;
       records : upto new.words l.next ≡ kept from l.cells l.cell;
+      each : len (kept from l.cells l.cell) ≡ l.next;
       firm : new.torn ≡ false;
       heads : SameBelow 3 old new;
       size : new.size ≡ old.size;

@@ -1,7 +1,8 @@
 use Rattle.std.proofs.Common.{◌∙◌, ℕ, ◌+◌, ◌-◌, sym, ap}
-use Rattle.std.specs.FinMap.{insert}
+use Rattle.std.specs.FinMap.{insert, len}
+use Rattle.plc_base.specs.Keeper.{Records}
 use Rattle.flash_keeper.specs.Log.{holds_later}
-use Rattle.flash_keeper.proofs.CopyLemmas.{kept-uncounted, kept-replaced, kept-counted}
+use Rattle.flash_keeper.proofs.CopyLemmas.{kept-uncounted, kept-replaced, kept-counted, kept-one_more}
 use Rattle.flash_keeper.proofs.cells.copy_cell.Goals as goal
 
 pub returns-then-not-is_marked-clause-records : goal.returns-then-not-is_marked-clause-records
@@ -30,3 +31,27 @@ returns-clause-records g c =
     ∙ sym (kept-counted words cells cell (sym c.is_marked.ensures ∙ c.if-not-is_marked.false)
     (ap (λ (s : ℕ). holds_later words (cell + 1) (cells - (cell + 1)) s) (sym c.slot_of-slot.ensures) ∙ sym c.is_replaced.ensures
     ∙ c.if-is_replaced.false))
+
+pub returns-then-not-is_marked-clause-each : goal.returns-then-not-is_marked-clause-each
+returns-then-not-is_marked-clause-each g c =
+    let words = (g.B.FlashBank.bank c.args.from.now).words in
+    ap (λ (r : Records). len r) (kept-uncounted words c.args.cells c.args.cell (sym c.is_marked.ensures ∙ c.if-not-is_marked.true)) ∙ c.requires.each
+
+pub returns-then-is_replaced-clause-each : goal.returns-then-is_replaced-clause-each
+returns-then-is_replaced-clause-each g c =
+    let words = (g.B.FlashBank.bank c.args.from.now).words in
+    let cell = c.args.cell in
+    let cells = c.args.cells in
+    ap (λ (r : Records). len r) (kept-replaced words cells cell
+    (ap (λ (s : ℕ). holds_later words (cell + 1) (cells - (cell + 1)) s) (sym c.slot_of-slot.ensures) ∙ sym c.is_replaced.ensures
+    ∙ c.if-is_replaced.true)) ∙ c.requires.each
+
+pub returns-clause-each : goal.returns-clause-each
+returns-clause-each g c =
+    let words = (g.B.FlashBank.bank c.args.from.now).words in
+    let cell = c.args.cell in
+    let cells = c.args.cells in
+    kept-one_more words cells cell c.requires.before (sym c.is_marked.ensures ∙ c.if-not-is_marked.false)
+    (ap (λ (s : ℕ). holds_later words (cell + 1) (cells - (cell + 1)) s) (sym c.slot_of-slot.ensures) ∙ sym c.is_replaced.ensures
+    ∙ c.if-is_replaced.false)
+    ∙ ap (λ (m : ℕ). m + 1) c.requires.each

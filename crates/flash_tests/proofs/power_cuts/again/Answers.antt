@@ -10,7 +10,7 @@ swapped a b c (inl s) = inr s
 swapped a b c (inr s) = inl s
 
 pub open-requires : goal.open-requires
-open-requires c = inl (_, swapped _ _ _ c.into_banks-first.ensures)
+open-requires c = inl (_, swapped _ _ _ c.into_banks-first.ensures.store)
 
 pub open-requires-in-Err : goal.open-requires-in-Err
-open-requires-in-Err c = inl (_, c.in-Err.ensures.left _ (swapped _ _ _ c.into_banks-first.ensures))
+open-requires-in-Err c = inl (_, c.in-Err.ensures.left _ (swapped _ _ _ c.into_banks-first.ensures.store))

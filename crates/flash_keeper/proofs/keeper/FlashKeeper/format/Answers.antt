@@ -1,9 +1,20 @@
-use Rattle.std.proofs.Common.{◌∙◌, None}
-use Rattle.flash_keeper.proofs.KeeperLemmas.{nothing_else}
+use Rattle.std.proofs.Common.{◌∙◌, None, List, ℕ, ap, sym}
+use Rattle.std.specs.Ordering.{nat_cmp}
+use Rattle.std.specs.FinMap.{len, len-empty}
+use Rattle.plc_base.specs.Keeper.{Records}
+use Rattle.flash_keeper.proofs.KeeperLemmas.{nothing_else, purged_is}
 use Rattle.flash_keeper.proofs.keeper.FlashKeeper.format.Goals as goal
 
 pub returns-clause-ok : goal.returns-clause-ok
 returns-clause-ok g c =
     let e = c.in-Ok.ensures.records in
-    let l = nothing_else _ _ _ c.in-Ok.ensures.ready ∙ e in
-    λ i. record { store = record { records = e i; faults = 0; known_cut = None; listed = None }; left = l i }
+    λ i. record { records = e i; faults = 0; known_cut = None; listed = None }
+
+pub returns-clause-left : goal.returns-clause-left
+returns-clause-left g c = nothing_else _ _ _ c.in-Ok.ensures.ready ∙ c.in-Ok.ensures.records
+
+pub returns-clause-purged : goal.returns-clause-purged
+returns-clause-purged g c =
+    let pair = c.format.new.self in
+    purged_is (g.B.FlashBank.bank pair.live) (g.B.FlashBank.bank pair.spare) pair.next
+    (ap (λ (r : Records). len r) c.in-Ok.ensures.records ∙ len-empty nat_cmp (List ℕ) ∙ sym c.in-Ok.ensures.next) c.in-Ok.ensures.blank

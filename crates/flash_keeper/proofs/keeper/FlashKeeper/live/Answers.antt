@@ -8,5 +8,5 @@ returns-clause-log g c =
     let live = g.B.FlashBank.bank c.self.inside.pair.live in (
       c.self.inside.pair.next,
       subst (λ (s : FlashStore). IsLeft live c.self.inside.pair.next (record { old = s.store.records; new = s.left })) c.self.view_is
-          c.self.invariant.left.log,
+          c.self.invariant.held.left.log,
     )

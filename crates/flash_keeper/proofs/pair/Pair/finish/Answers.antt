@@ -1,8 +1,10 @@
-use Rattle.std.proofs.Common.{◌∙◌, inl, sym, ap, arith}
+use Rattle.std.proofs.Common.{◌∙◌, ℕ, inl, sym, subst, ap, arith}
 use Rattle.flash_keeper.specs.Flash.{Bank}
-use Rattle.flash_keeper.proofs.Outcomes.{on_err, one_ok, one_err}
+use Rattle.flash_keeper.specs.Log.{IsLeft}
+use Rattle.flash_keeper.specs.Banks.{AreHeld, AreAmong}
+use Rattle.flash_keeper.proofs.Outcomes.{on_err, one_ok, one_err, both_err, three_err}
 use Rattle.flash_keeper.proofs.LogLemmas.{one_of}
-use Rattle.flash_keeper.proofs.BankLemmas.{store_left, dead_moved, numbered-same}
+use Rattle.flash_keeper.proofs.BankLemmas.{store_left, dead_moved, numbered-same, held_beside_dead}
 use Rattle.flash_keeper.proofs.pair.Pair.finish.Goals as goal
 
 pub returns-in_err-sure-clause-left : goal.returns-in_err-sure-clause-left
@@ -12,8 +14,8 @@ returns-in_err-sure-clause-left g c = on_err c.from_residual.result (λ choice n
     (c.settle_before.ensures.heads 2 (omega arith) ∙ c.requires.mark)
     (c.in_err-sure.ensures.left n choice left (c.first_blank-at.ensures.found n choice left)) c.requires.spare)
 
-pub overflow_sub-self : goal.overflow_sub-self
-overflow_sub-self g c =
+pub overflow_sub-at : goal.overflow_sub-at
+overflow_sub-at g c =
     let choice = c.requires.log.0 in
     let n = c.requires.log.1 in
     let left = c.requires.log.2 in
@@ -77,3 +79,41 @@ returns-clause-left g c = one_err c.finish_at.result (λ f choice n left.
 pub returns-then-not-sure-clause-in_place : goal.returns-then-not-sure-clause-in_place
 returns-then-not-sure-clause-in_place g c = λ choice n left decided. absurd (c.in_ok-sure.ensures.undecided c.if-not-sure.true n choice left
     (c.first_blank-at.ensures.found n choice left) decided)
+
+pub returns-in_err-sure-clause-held : goal.returns-in_err-sure-clause-held
+returns-in_err-sure-clause-held g c =
+    let n = c.args.self.now.next in
+    on_err c.from_residual.result (λ choice left.
+    held_beside_dead (g.B.FlashBank.bank c.settle_before.new.bank) (g.B.FlashBank.bank c.args.self.now.spare) n c.args.self.now.copied choice
+    (c.settle_before.ensures.size ∙ c.requires.sizes)
+    (numbered-same _ _ (c.settle_before.ensures.firm ∙ sym c.requires.number.firm) (c.settle_before.ensures.heads 1 (omega arith)) c.requires.number)
+    (c.settle_before.ensures.heads 2 (omega arith) ∙ c.requires.mark)
+    (c.in_err-sure.ensures.left n choice left (c.first_blank-at.ensures.found n choice left)) c.requires.spare c.requires.fresh)
+
+pub returns-then-not-sure-clause-held : goal.returns-then-not-sure-clause-held
+returns-then-not-sure-clause-held g c =
+    let n = c.args.self.now.next in
+    let live = g.B.FlashBank.bank c.rewrite.new.self.live in
+    let spare = g.B.FlashBank.bank c.rewrite.new.self.spare in
+    let copied = c.rewrite.new.self.copied in
+    three_err c.rewrite.result (λ next left held choice was.
+    let short = c.in_ok-sure.ensures.torn c.if-not-sure.true n choice was (c.first_blank-at.ensures.found n choice was) in
+    let log = (left n choice short.left short.stands).log in
+    subst (λ (k : ℕ). AreHeld live spare k copied × AreAmong choice live k) (sym next)
+    (held n choice short.left (inl short.same), (log.stands, log.stands_next)))
+    c.rewrite.ensures.next c.rewrite.ensures.left c.rewrite.ensures.held
+
+pub returns-clause-held : goal.returns-clause-held
+returns-clause-held g c =
+    let n = c.args.self.now.next in
+    let live = g.B.FlashBank.bank c.finish_at.new.self.live in
+    both_err c.finish_at.result (λ f next choice left.
+    let closable = c.in_ok-sure.ensures.sure c.if-not-sure.false n choice left (c.first_blank-at.ensures.found n choice left) in
+    held_beside_dead live (g.B.FlashBank.bank c.finish_at.new.self.spare) c.finish_at.new.self.next c.finish_at.new.self.copied choice
+    (c.finish_at.ensures.size ∙ c.settle_before.ensures.size ∙ c.requires.sizes ∙ ap (λ (b : Bank). b.size) (sym c.finish_at.ensures.spare))
+    (numbered-same _ _ (c.finish_at.ensures.firm ∙ sym c.requires.number.firm)
+    (c.finish_at.ensures.heads 1 (omega arith) ∙ c.settle_before.ensures.heads 1 (omega arith)) c.requires.number)
+    (c.finish_at.ensures.heads 2 (omega arith) ∙ c.settle_before.ensures.heads 2 (omega arith) ∙ c.requires.mark)
+    (subst (λ (k : ℕ). IsLeft live k choice) (sym next) (f choice closable))
+    (dead_moved _ _ c.finish_at.ensures.spare c.requires.spare) (c.finish_at.ensures.copied ∙ c.requires.fresh))
+    c.finish_at.ensures.left c.finish_at.ensures.next

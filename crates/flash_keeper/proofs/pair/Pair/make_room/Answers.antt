@@ -1,14 +1,24 @@
-use Rattle.std.proofs.Common.{ℕ, subst, sym}
-use Rattle.flash_keeper.specs.Banks.{AreLeft}
+use Rattle.std.proofs.Common.{◌∙◌}
 use Rattle.flash_keeper.proofs.Outcomes.{on_err}
-use Rattle.flash_keeper.proofs.LogLemmas.{one_of, settled_is_left}
-use Rattle.flash_keeper.proofs.BankLemmas.{ready_is_left}
+use Rattle.flash_keeper.proofs.BankLemmas.{ready_is_held, rewritten_is_held, rewritten_found, rewritten_records}
+use Rattle.flash_keeper.proofs.KeeperLemmas.{nothing_else}
 use Rattle.flash_keeper.proofs.pair.Pair.make_room.Goals as goal
 
-pub returns-in_err-rewrite-clause-left : goal.returns-in_err-rewrite-clause-left
-returns-in_err-rewrite-clause-left g c = on_err c.from_residual.result (λ choice one.
-    subst (λ (k : ℕ). AreLeft (g.B.FlashBank.bank c.rewrite.new.self.live) (g.B.FlashBank.bank c.rewrite.new.self.spare) k choice)
-    (sym c.in_err-rewrite.ensures.next) (c.in_err-rewrite.ensures.left c.args.self.now.next choice (settled_is_left _ _ choice c.requires.log one) one))
+pub returns-in_err-rewrite-clause-held : goal.returns-in_err-rewrite-clause-held
+returns-in_err-rewrite-clause-held g c = on_err c.from_residual.result (rewritten_is_held _ _ _ _ c.args.self.now.next _ _ c.requires.ready
+    c.in_err-rewrite.ensures.next c.in_err-rewrite.ensures.held)
 
-pub returns-clause-left : goal.returns-clause-left
-returns-clause-left g c = λ choice one. ready_is_left _ _ _ choice c.in_ok-rewrite.ensures.ready (one_of c.in_ok-rewrite.ensures.records one)
+pub returns-in_err-rewrite-clause-found : goal.returns-in_err-rewrite-clause-found
+returns-in_err-rewrite-clause-found g c = on_err c.from_residual.result (rewritten_found _ _ _ _ c.args.self.now.next _ c.requires.ready
+    c.in_err-rewrite.ensures.next c.in_err-rewrite.ensures.left)
+
+pub returns-in_err-rewrite-clause-records : goal.returns-in_err-rewrite-clause-records
+returns-in_err-rewrite-clause-records g c =
+    rewritten_records (g.B.FlashBank.bank c.args.self.now.live) (g.B.FlashBank.bank c.rewrite.new.self.live) c.args.self.now.next _
+    c.in_err-rewrite.ensures.next c.in_err-rewrite.ensures.same
+
+pub returns-clause-held : goal.returns-clause-held
+returns-clause-held g c = ready_is_held _ _ _ _ c.in_ok-rewrite.ensures.ready c.in_ok-rewrite.ensures.fresh
+
+pub returns-clause-found : goal.returns-clause-found
+returns-clause-found g c = nothing_else _ _ _ c.in_ok-rewrite.ensures.ready ∙ c.in_ok-rewrite.ensures.records

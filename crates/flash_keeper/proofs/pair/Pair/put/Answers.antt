@@ -1,23 +1,11 @@
-use Rattle.std.proofs.Common.{◌∙◌, inl, inr, refl, sym, ap}
+use Rattle.std.proofs.Common.{◌∙◌, inl, inr, ap}
 use Rattle.std.specs.FinMap.{insert}
 use Rattle.plc_base.specs.Keeper.{Records}
-use Rattle.flash_keeper.specs.Log.{upto}
-use Rattle.flash_keeper.specs.Banks.{choice_of}
 use Rattle.flash_keeper.proofs.Outcomes.{on_err, one_ok, one_err}
-use Rattle.flash_keeper.proofs.KeeperLemmas.{same_left}
 use Rattle.flash_keeper.proofs.pair.Pair.put.Goals as goal
 
-pub returns-in_err-make_room-clause-left : goal.returns-in_err-make_room-clause-left
-returns-in_err-make_room-clause-left g c =
-    on_err c.from_residual.result (c.in_err-make_room.ensures.left (choice_of (g.B.FlashBank.bank c.make_room.new.self.live) c.make_room.new.self.next) (inl
-    (sym c.make_room.ensures.records)))
-
 pub returns-in_err-make_room-clause-found : goal.returns-in_err-make_room-clause-found
-returns-in_err-make_room-clause-found g c =
-    let r : Records = upto (g.B.FlashBank.bank c.args.self.now.live).words c.args.self.now.next in
-    on_err c.from_residual.result (inl (same_left (g.B.FlashBank.bank c.make_room.new.self.live) (g.B.FlashBank.bank c.make_room.new.self.spare)
-    c.make_room.new.self.next r
-    (c.in_err-make_room.ensures.left (record { old = r; new = r }) (inl refl))))
+returns-in_err-make_room-clause-found g c = on_err c.from_residual.result (inl c.in_err-make_room.ensures.found)
 
 pub returns-in_err-make_room-clause-same : goal.returns-in_err-make_room-clause-same
 returns-in_err-make_room-clause-same g c = on_err c.from_residual.result c.make_room.ensures.records

@@ -1,7 +1,9 @@
-use Rattle.std.proofs.Common.{◌∙◌, inl, ap}
+use Rattle.std.proofs.Common.{◌∙◌, ℕ, inl, ap, subst, sym}
 use Rattle.flash_keeper.specs.Flash.{Bank}
+use Rattle.flash_keeper.specs.Log.{IsLeft}
+use Rattle.flash_keeper.specs.Banks.{AreHeld, AreAmong, choice_of}
 use Rattle.flash_keeper.proofs.Outcomes.{on_err, one_ok, one_err}
-use Rattle.flash_keeper.proofs.BankLemmas.{decided-same}
+use Rattle.flash_keeper.proofs.BankLemmas.{decided-same, moved_is_held}
 use Rattle.flash_keeper.proofs.pair.Pair.settle.Goals as goal
 
 pub returns-in_err-part-clause-left : goal.returns-in_err-part-clause-left
@@ -29,3 +31,22 @@ returns-clause-in_place g c = λ n choice left decided i two.
     let live = g.B.FlashBank.bank c.part.new.self.live in
     ap (λ (b : Bank). b.words i) (c.finish.ensures.in_place choice n (c.in_ok-part.ensures.left n choice left).log
     (decided-same was live n c.in_ok-part.ensures.cells decided)) ∙ c.in_ok-part.ensures.others i two
+
+pub returns-in_err-part-clause-held : goal.returns-in_err-part-clause-held
+returns-in_err-part-clause-held g c =
+    let was = g.B.FlashBank.bank c.args.self.now.live in
+    let live = g.B.FlashBank.bank c.part.new.self.live in
+    let spare = g.B.FlashBank.bank c.part.new.self.spare in
+    let n = c.args.self.now.next in
+    let copied = c.part.new.self.copied in
+    on_err c.from_residual.result (λ left. subst (λ (k : ℕ). AreHeld live spare k copied × AreAmong (choice_of was n) live k) (sym c.part.ensures.next)
+    (moved_is_held was live spare n copied (c.part.ensures.live_size ∙ c.requires.sizes ∙ sym c.part.ensures.spare_size) c.part.ensures.cells
+    (c.part.ensures.copied ∙ c.requires.fresh) (c.part.ensures.left n (choice_of was n) left)))
+
+pub returns-clause-held : goal.returns-clause-held
+returns-clause-held g c =
+    let was = g.B.FlashBank.bank c.args.self.now.live in
+    let live = g.B.FlashBank.bank c.part.new.self.live in
+    let n = c.args.self.now.next in
+    one_err c.finish.result (λ f left. f (choice_of was n) (subst (λ (k : ℕ). IsLeft live k (choice_of was n)) (sym c.part.ensures.next)
+    (c.part.ensures.left n (choice_of was n) left).log)) c.finish.ensures.held
