@@ -36,7 +36,8 @@ use Rattle.line_rules.specs.Runs.{run}
 use Rattle.line_rules.specs.Worlds.{World, Flight, Trace, node_at}
 use Rattle.line_progress.specs.Arrival.{Stop, IsReady, HasLink, HasRoute, AreReady, IsNoneOf, IsStraight, MayGather, IsBrought, last_of, deliveries}
 use Rattle.line_progress.specs.Arrival.{all_deliveries, delivery_answers, all_answers, last_answer}
-use Rattle.line_progress.specs.Discovery.{TakesRequest, AreReached, Search, AreBack, MayReach, MayFind, DiscoveriesArrive, asked_of, back_answers, back_deliveries}
+use Rattle.line_progress.specs.Discovery.{TakesRequest, AreReached, Search, AreBack, MayReach}
+use Rattle.line_progress.specs.Discovery.{MayFind, DiscoveriesArrive, asked_of, back_answers, back_deliveries}
 use Rattle.line_progress.specs.Discovery.{cost_back, counter_back, search_of}
 use Rattle.line_progress.proofs.Arriving.{InFrames, fly_on, flies_at, flight_for, flights_for, count_of, in_frames}
 use Rattle.line_progress.proofs.Delivering.{Goes}

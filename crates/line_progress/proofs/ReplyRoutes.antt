@@ -30,7 +30,8 @@ use Rattle.line_rules.specs.Further.{line_step}
 use Rattle.line_rules.specs.Runs.{run}
 use Rattle.line_rules.specs.Worlds.{World, Trace, node_at}
 use Rattle.line_progress.specs.Arrival.{Stop, IsReady, IsNoneOf, IsStraight, last_of}
-use Rattle.line_progress.specs.Discovery.{TakesRequest, AreReached, Search, AreBack, PassesBack, asked_of, back_answers, back_deliveries, cost_back, counter_back}
+use Rattle.line_progress.specs.Discovery.{TakesRequest, AreReached, Search, AreBack, PassesBack}
+use Rattle.line_progress.specs.Discovery.{asked_of, back_answers, back_deliveries, cost_back, counter_back}
 use Rattle.line_progress.proofs.Accepting.{got_by}
 use Rattle.line_progress.proofs.Delivering.{Goes}
 use Rattle.line_progress.proofs.Messages.{Holds, IsComing, IsFlying, came, counter_low, flies_last, holds_then, is_target, message_by, message_goes, step_is}

@@ -14,7 +14,8 @@ use Rattle.line_rules.specs.Runs.{run}
 use Rattle.line_rules.specs.Worlds.{World}
 use Rattle.line_progress.specs.Arrival.{IsBrought, answers_of}
 use Rattle.line_progress.specs.Discovery.{MayFind}
-use Rattle.worked_scripts.specs.ArrivalScripts.{stop_of, with_node, with_station_at, with_grant_at, with_cut_at, with_hop_at, with_second_key, other_of, with_others}
+use Rattle.worked_scripts.specs.ArrivalScripts.{stop_of, with_node, with_station_at, with_grant_at, with_cut_at}
+use Rattle.worked_scripts.specs.ArrivalScripts.{with_hop_at, with_second_key, other_of, with_others}
 use Rattle.worked_scripts.specs.Scripts.{plain, second_key, three_meters, four_meters, world_of}
 
 -- # A way of two links
