@@ -620,8 +620,11 @@ recorded_own e s own =
     subst (λ (xs : List ℕ). AreOwn xs (length (recorded e n story t).stories)) (sym is.sent)
     (subst (λ (k : ℕ). AreOwn (sent_with (sends e.act e.answer) story t.sent) k) (sym (recorded_length e n story t)) (settled_own e s own))
 
+readied_on : (node : ℕ) (e : TaleEvent) (s : Stories) → GoesOn s (event_by (Some node) e s)
+readied_on node e s = record { sent = refl; on = may_end_on (may_end e) (next_event s) e s.keeping s.stories }
+
 event_own_by : (o : Option ℕ) (e : TaleEvent) (s : Stories) → AreOwnIn s → AreOwnIn (event_by o e s)
-event_own_by (Some node) e s own = own
+event_own_by (Some node) e s own = goes_own s (event_by (Some node) e s) (readied_on node e s) own
 event_own_by None e s own =
     let t = settled e.act s in
     let n = length t.owners in
@@ -668,7 +671,7 @@ unfolding event_seen
 event_follows e send event at_last s only own f = by_ready (readies e.act) refl
   where
     readied : (node : ℕ) → FollowsIn send event at_last (event_by (Some node) e s)
-    readied node = record { number = f.number; owner = f.owner; told = f.told }
+    readied node = goes_follow send event at_last s (event_by (Some node) e s) (readied_on node e s) f
 
     by_ready : (o : Option ℕ) → readies e.act ≡ o → FollowsIn send event (or_first at_last (is_of e.up send) (next_event s)) (event_seen e s)
     by_ready (Some node) is =

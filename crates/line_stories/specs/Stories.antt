@@ -257,9 +257,13 @@ kept_seen e n story s = piece_begun e n (kept_begun (waiting_kept e n story) (up
 
 -- # One event and its story
 
--- an event that readies something has no story so far
+-- with a node that an event readies
+abbrev pub readied : ℕ → TaleEvent → Stories → Stories
+readied node e s = record s { ready = s.ready ++ (node ∷ []); homes = homes_with (newcomer (length s.homes) e.act e.answer e.address) s.homes }
+
+-- an event that readies something has no story so far; at it the coordinator may lose power
 abbrev pub event_by : Option ℕ → TaleEvent → Stories → Stories
-event_by (Some node) e s = record s { ready = s.ready ++ (node ∷ []); homes = homes_with (newcomer (length s.homes) e.act e.answer e.address) s.homes }
+event_by (Some node) e s = kept_ended e (next_event s) (readied node e s)
 event_by None e s =
     let owned = settled e.act s in
     kept_seen e (length owned.owners) (last_owner owned.owners) (recorded e (length owned.owners) (last_owner owned.owners) owned)

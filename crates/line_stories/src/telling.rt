@@ -392,8 +392,10 @@ impl Telling {
     fn get_ready(&mut self, event: &TaleEvent, node: u32) -> Result<(), AllocError>
         ensures { OnOk result (self.new ≡ spec_stories.event_by (Some node) event.now self.old) }
     {
+        let number = self.owners.len() + self.ready.len() + 1;
         self.ready.push(node)?;
-        push_home(&mut self.homes, event)
+        push_home(&mut self.homes, event)?;
+        self.end_kept(event, number)
     }
 
     /// Adds the next event of a tale.
