@@ -4,3 +4,4 @@ mod Numbers
 mod PlainEvents
 mod QuietEvents
 mod Ends
+mod Keepings

@@ -1,5 +1,6 @@
 //! Laws of what stories say: each stands as the contract of a function that does nothing.
 ghost use Rattle.story_laws.specs.Ends.{DropsAreEnds, EndsAreTold, ToldEndsAreSo};
+ghost use Rattle.story_laws.specs.Keepings.{KeptAreSince};
 
 /// Where an event of a line ends what a node keeps, its story says so, with the kind of the end.
 pub fn ends_are_told()
@@ -14,4 +15,9 @@ pub fn told_ends_are_so()
 /// The answers by which a story says that a datagram ended at a node are those that end it by the rules, and `BadUnit`.
 pub fn drops_are_ends()
     ensures { DropsAreEnds }
+{}
+
+/// What a node keeps of a story still at the end of a tale began at its event, and no later event ended it.
+pub fn kept_are_since()
+    ensures { KeptAreSince }
 {}

@@ -1,0 +1,37 @@
+-- Since when a story says that a node keeps something of it.
+use Rattle.std.specs.Prelude.{◌≡◌, ℕ, ◌<◌, true, false, List, is_some, Some, All}
+use Rattle.line_progress.specs.Lists.{Among}
+use Rattle.line_stories.specs.Keepings.{is_waiting}
+use Rattle.line_stories.specs.Stories.{stories_of}
+use Rattle.line_tale.specs.declared.kept.Kept.{Kept}
+use Rattle.line_tale.specs.declared.kept.KeptEnd.TheVariants as kept_ends
+use Rattle.line_tale.specs.declared.told.TaleEvent.{TaleEvent}
+use Rattle.line_tale.specs.declared.told.TaleFlight.{TaleFlight}
+use Rattle.line_tale.specs.Keeping.{end_of, makes_message}
+use Rattle.line_tale.specs.Kinds.{actor_of, is_piece_held, readies, sends}
+use Rattle.line_tale.specs.Tales.{numbered}
+
+-- What begins at an event: a datagram that is sent waits for a route, a piece is held, or a joining message is made.
+pub data HasBegun (k : Kept) (e : TaleEvent) : Type 0 where
+  Waits : k.gathered ≡ false → sends e.act e.answer ≡ true → is_waiting e.answer ≡ true → HasBegun k e
+  IsGathered : k.gathered ≡ true → is_piece_held e.answer ≡ true → HasBegun k e
+  IsMessage : k.gathered ≡ false → makes_message e.answer ≡ true → HasBegun k e
+
+-- It began at its event, at the node that did it, and no later event ended it.
+pub record IsKeptSince (events : List TaleEvent) (k : Kept) : Type 0 where
+  pub event : TaleEvent
+  pub there : numbered events k.event ≡ Some event
+  pub clock : event.clock ≡ k.clock
+  pub node : actor_of event.act ≡ k.node
+  pub began : HasBegun k event
+  pub still : (m : ℕ) (e : TaleEvent) → k.event < m → numbered events m ≡ Some e → end_of m e k ≡ kept_ends.Still
+
+-- an event that readies a node for a joining makes no message
+abbrev pub MakesNone : TaleEvent → Type 0
+MakesNone e = is_some (readies e.act) ≡ true → makes_message e.answer ≡ false
+
+-- what is kept still at the end of a tale is so since its event
+abbrev pub KeptAreSince : Type 0
+KeptAreSince =
+    (events : List TaleEvent) (flights : List TaleFlight) → All MakesNone events
+    → (k : Kept) → Among k (stories_of events flights).keeping → IsKeptSince events k
