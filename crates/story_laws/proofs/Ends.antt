@@ -133,7 +133,7 @@ leaves_there node (events.Choose other k) is = absurd is
 leaves_there node (events.Path from to) is = absurd is
 
 -- what is kept still has no kind of end
-still_named : (w : World) (event : Event) (k : Kept) (n : ℕ) (r : World × Trace) (end : KeptEnd) → is_still end ≡ true → IsNamedEnd w event k n r end → ⊥
+pub still_named : (w : World) (event : Event) (k : Kept) (n : ℕ) (r : World × Trace) (end : KeptEnd) → is_still end ≡ true → IsNamedEnd w event k n r end → ⊥
 still_named w event k n r end still (NamesAge seconds is old) = true_false (sym still)
 still_named w event k n r end still (NamesRestart is) = true_false (sym still)
 still_named w event k n r end still (NamesLeaving may left) = true_false (sym still)

@@ -5,3 +5,4 @@ mod PlainEvents
 mod QuietEvents
 mod Ends
 mod Keepings
+mod KeptRuns

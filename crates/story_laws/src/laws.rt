@@ -1,6 +1,7 @@
 //! Laws of what stories say: each stands as the contract of a function that does nothing.
 ghost use Rattle.story_laws.specs.Ends.{DropsAreEnds, EndsAreTold, ToldEndsAreSo};
 ghost use Rattle.story_laws.specs.Keepings.{KeptAreSince};
+ghost use Rattle.story_laws.specs.KeptRuns.{RunsKeepIt};
 
 /// Where an event of a line ends what a node keeps, its story says so, with the kind of the end.
 pub fn ends_are_told()
@@ -20,4 +21,9 @@ pub fn drops_are_ends()
 /// What a node keeps of a story still at the end of a tale began at its event, and no later event ended it.
 pub fn kept_are_since()
     ensures { KeptAreSince }
+{}
+
+/// Of a run and its tale: what a story says a node keeps still, an event of the run after the one at which it began has not ended.
+pub fn runs_keep_it()
+    ensures { RunsKeepIt }
 {}

@@ -1,0 +1,40 @@
+-- What the stories of a run say is kept still, the run has not ended.
+use Rattle.std.specs.Prelude.{◌≡◌, ℕ, ◌+◌, ◌<◌, List, [], ◌∷◌, ◌++◌, length, Some}
+use Rattle.node_rules.specs.Ciphers.{network}
+use Rattle.node_rules.specs.Memory.{StationMemory}
+use Rattle.line_progress.specs.Lists.{Among}
+use Rattle.line_progress.specs.Stations.{station_at}
+use Rattle.line_rules.specs.Runs.{Entry, IsRun}
+use Rattle.line_rules.specs.Worlds.{World, start}
+use Rattle.line_stories.specs.Stories.{stories_of}
+use Rattle.line_tale.specs.declared.kept.Kept.{Kept}
+use Rattle.line_tale.specs.declared.told.TaleEvent.{TaleEvent}
+use Rattle.line_tale.specs.declared.told.TaleFlight.{TaleFlight}
+use Rattle.story_laws.specs.Ends.{EndedKept, HaltsUnsaid, told_by}
+
+-- an event is what is told of an entry, of a line of some number
+pub record IsToldOf (x : Entry) (e : TaleEvent) : Type 0 where
+  pub row : ℕ
+  pub same : ℕ
+  pub is : e ≡ told_by row same x.event (x.after, x.trace)
+
+-- these events are what is told of these entries
+abbrev pub AreTold : List Entry → List TaleEvent → Type 0
+AreTold [] [] = Unit {0}
+AreTold [] (e ∷ es) = ⊥
+AreTold (x ∷ xs) [] = ⊥
+AreTold (x ∷ xs) (e ∷ es) = IsToldOf x e × AreTold xs es
+
+-- the world after these entries
+abbrev pub left_after : List Entry → World → World
+left_after [] w = w
+left_after (x ∷ xs) w = left_after xs x.after
+
+-- Of a run and its tale, whatever is told of its flights: what a story says a node keeps still, an event after the one at which it began has not ended,
+-- unless nothing says that the node has halted.
+abbrev pub RunsKeepIt : Type 0
+RunsKeepIt =
+    (before after : List Entry) (x : Entry) (events : List TaleEvent) (flights : List TaleFlight) → IsRun network start (before ++ (x ∷ after))
+    → AreTold (before ++ (x ∷ after)) events → (k : Kept) → Among k (stories_of events flights).keeping → k.event < length before + 1
+    → (l : StationMemory) → station_at (left_after before start) k.node ≡ Some l
+    → EndedKept (left_after before start) x.event k (x.after, x.trace) → HaltsUnsaid x.event k (x.after, x.trace)
