@@ -296,7 +296,7 @@ none_ready : (act : Act) (s : Stories) → length (settled act s).ready ≡ 0
 unfolding settled
 none_ready act s = refl
 
-settled_number : (act : Act) (s : Stories) → length (settled act s).owners ≡ seen s + 1
+pub settled_number : (act : Act) (s : Stories) → length (settled act s).owners ≡ seen s + 1
 settled_number act s = omega (arith, settled_count act s, none_ready act s)
 
 module _ (es : List TaleEvent) (e : TaleEvent) (s : Stories) (count : seen s ≡ length es) where

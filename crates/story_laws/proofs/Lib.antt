@@ -6,3 +6,4 @@ mod QuietEvents
 mod Ends
 mod Keepings
 mod KeptRuns
+mod Waits

@@ -1,15 +1,15 @@
 -- Since when a story says that a node keeps something of it.
-use Rattle.std.specs.Prelude.{◌≡◌, ℕ, ◌<◌, true, false, List, is_some, Some, All}
+use Rattle.std.specs.Prelude.{◌≡◌, ℕ, ◌+◌, ◌<◌, true, false, List, [], ◌∷◌, ◌++◌, length, is_some, Some, All}
 use Rattle.line_progress.specs.Lists.{Among}
 use Rattle.line_stories.specs.Keepings.{is_waiting}
-use Rattle.line_stories.specs.Stories.{stories_of}
+use Rattle.line_stories.specs.Stories.{Stories, events_seen, last_owner, may_leave, no_stories, stories_of}
 use Rattle.line_tale.specs.declared.kept.Kept.{Kept}
 use Rattle.line_tale.specs.declared.kept.KeptEnd.TheVariants as kept_ends
 use Rattle.line_tale.specs.declared.told.TaleEvent.{TaleEvent}
 use Rattle.line_tale.specs.declared.told.TaleFlight.{TaleFlight}
 use Rattle.line_tale.specs.Keeping.{end_of, makes_message}
 use Rattle.line_tale.specs.Kinds.{actor_of, is_piece_held, readies, sends}
-use Rattle.line_tale.specs.Tales.{numbered}
+use Rattle.line_tale.specs.Tales.{made_by, numbered}
 
 -- What begins at an event: a datagram that is sent waits for a route, a piece is held, or a joining message is made.
 pub data HasBegun (k : Kept) (e : TaleEvent) : Type 0 where
@@ -35,3 +35,21 @@ abbrev pub KeptAreSince : Type 0
 KeptAreSince =
     (events : List TaleEvent) (flights : List TaleFlight) → All MakesNone events
     → (k : Kept) → Among k (stories_of events flights).keeping → IsKeptSince events k
+
+-- # What begins
+
+-- What is kept began at the event of this number, the last one, for its story: a datagram that waits.
+pub record BeginsToWait (e : TaleEvent) (n : ℕ) (s : Stories) : Type 0 where
+  pub kept : Kept
+  pub inside : Among kept s.keeping
+  pub waits : kept.gathered ≡ false
+  pub event : kept.event ≡ n
+  pub node : kept.node ≡ actor_of e.act
+  pub story : kept.story ≡ last_owner s.owners
+
+-- a datagram that is answered Waiting is kept by its story from then on, where none of the flights of its event may be what waited
+abbrev pub WaitsAreKept : Type 0
+WaitsAreKept =
+    (before : List TaleEvent) (e : TaleEvent) (flights : List TaleFlight) → sends e.act e.answer ≡ true → is_waiting e.answer ≡ true
+    → ((f : TaleFlight) → Among f (made_by e flights) → may_leave f ≡ false)
+    → BeginsToWait e (length before + 1) (events_seen flights (before ++ (e ∷ [])) no_stories)

@@ -1,6 +1,6 @@
 //! Laws of what stories say: each stands as the contract of a function that does nothing.
 ghost use Rattle.story_laws.specs.Ends.{DropsAreEnds, EndsAreTold, ToldEndsAreSo};
-ghost use Rattle.story_laws.specs.Keepings.{KeptAreSince};
+ghost use Rattle.story_laws.specs.Keepings.{KeptAreSince, WaitsAreKept};
 ghost use Rattle.story_laws.specs.KeptRuns.{RunsKeepIt};
 
 /// Where an event of a line ends what a node keeps, its story says so, with the kind of the end.
@@ -26,4 +26,9 @@ pub fn kept_are_since()
 /// Of a run and its tale: what a story says a node keeps still, an event of the run after the one at which it began has not ended.
 pub fn runs_keep_it()
     ensures { RunsKeepIt }
+{}
+
+/// A datagram that is answered Waiting is kept by its story from then on, where none of the flights of its event may be what waited.
+pub fn waits_are_kept()
+    ensures { WaitsAreKept }
 {}
