@@ -1,0 +1,6 @@
+mod Words
+mod Drops
+mod Numbers
+mod PlainEvents
+mod QuietEvents
+mod Ends
