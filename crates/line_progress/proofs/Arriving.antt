@@ -31,6 +31,7 @@ use Rattle.node_rules.specs.Frames.{Sent, Sealed, spelled}
 use Rattle.node_rules.specs.Hearing.{gathered}
 use Rattle.node_rules.specs.Memory.{StationMemory}
 use Rattle.node_rules.specs.Plans.{resting}
+use Rattle.line_events.specs.declared.event.Answer.{Answer}
 use Rattle.line_events.specs.declared.event.Answer.TheVariants as answers
 use Rattle.line_events.specs.declared.event.Event.{Event}
 use Rattle.line_events.specs.declared.event.Event.TheVariants as events
@@ -56,7 +57,7 @@ IsHanded datagram zero up = (note : ℕ) × (up ≡ Some (record { note = note; 
 IsHanded datagram (suc more) up = up ≡ None
 
 -- the flight at a place is there in a later world
-moved : (ciphers : Ciphers) (w v : World) (place dest origin sent : ℕ) (s t : Stop) (content : Content) (more : ℕ)
+pub moved : (ciphers : Ciphers) (w v : World) (place dest origin sent : ℕ) (s t : Stop) (content : Content) (more : ℕ)
     → ((k : ℕ) (f : Flight) → slice_get w.flights k ≡ Some f → slice_get v.flights k ≡ Some f)
     → IsUnderWay ciphers w place dest origin sent s t content more → IsUnderWay ciphers v place dest origin sent s t content more
 moved ciphers w v place dest origin sent s t content more stays way = record {
@@ -173,7 +174,7 @@ now_at_first w frames dest held s t there ready link gathers =
       admits = subst (λ c. room_for t.memory.station.marks s.granted.address c ≡ Ok tt) none link.admits;
     }
 
-all_at_first : (w : World) (frames dest : ℕ) (rest : List Stop) (s t : Stop) → AreReady w (t ∷ rest) → HasRoute frames dest s (t ∷ rest)
+pub all_at_first : (w : World) (frames dest : ℕ) (rest : List Stop) (s t : Stop) → AreReady w (t ∷ rest) → HasRoute frames dest s (t ∷ rest)
     → AreNow w dest 0 (last_of t rest).memory.station.reassemblies s (t ∷ rest)
 all_at_first w frames dest [] s t ready route =
     (now_at_first w frames dest t.memory.station.reassemblies s t ready.0 ready.1 route.0 (λ _. refl), tt)
@@ -430,12 +431,33 @@ module _ (s z : Stop) (datagram : List ℕ) (some : 0 < length datagram) (few : 
 
 -- # Frames that fly go along the route
 
-module _ (ciphers : Ciphers) (opens : OpensWhatItSeals ciphers) (v : World) (s t : Stop) (rest : List Stop) (datagram : List ℕ) (base note : ℕ)
-    (cut : InFrames s (last_of t rest) datagram) (first : IsReady s) (ready : AreReady v (t ∷ rest)) (straight : IsStraight (t ∷ rest))
-    (route : HasRoute (pieces_of (length datagram)) (last_of t rest).granted.address s (t ∷ rest)) (short : length rest ≤ 13)
-    (fly : (k : ℕ) (unit : MeshUnit) → slice_get cut.us k ≡ Some unit
+-- they are under way to the first node
+pub start_so : (ciphers : Ciphers) (v : World) (s t : Stop) (rest : List Stop) (datagram : List ℕ) (base note : ℕ)
+    (cut : InFrames s (last_of t rest) datagram) → length rest ≤ 13
+    → ((k : ℕ) (unit : MeshUnit) → slice_get cut.us k ≡ Some unit
     → slice_get v.flights (base + k)
     ≡ Some (flight_for ciphers s.number s.granted s.key t.granted.address note (s.memory.station.counter.next + k) unit))
+    → (k : ℕ) → k < pieces_of (length datagram)
+    → IsUnderWay ciphers v (base + k) (last_of t rest).granted.address s.granted.address k s t (cut.contents k) (length rest)
+start_so ciphers v s t rest datagram base note cut short fly k lt = record {
+  f = flight_for ciphers s.number s.granted s.key t.granted.address note (s.memory.station.counter.next + k)
+      (unit_with (own_mesh s.granted.address (last_of t rest).granted.address) (cut.contents k));
+  mesh = own_mesh s.granted.address (last_of t rest).granted.address;
+  note = note;
+  flown = fly k _ (cut.units_are k lt);
+  unlost = refl;
+  same = refl;
+  to = refl;
+  origin_is = refl;
+  few = omega arith;
+  enough = omega (arith, short);
+}
+
+module _ (ciphers : Ciphers) (opens : OpensWhatItSeals ciphers) (v : World) (s t : Stop) (rest : List Stop) (datagram : List ℕ) (base : ℕ)
+    (cut : InFrames s (last_of t rest) datagram) (first : IsReady s) (ready : AreReady v (t ∷ rest)) (straight : IsStraight (t ∷ rest))
+    (route : HasRoute (pieces_of (length datagram)) (last_of t rest).granted.address s (t ∷ rest))
+    (ways : (k : ℕ) → k < pieces_of (length datagram)
+    → IsUnderWay ciphers v (base + k) (last_of t rest).granted.address s.granted.address k s t (cut.contents k) (length rest))
     (next : ℕ) (numbered : next ≡ length v.flights + 1)
     (room : v.events + pieces_of (length datagram) * (1 + length rest) ≤ MAX_EVENTS) where
   abbrev far : ℕ
@@ -452,24 +474,15 @@ module _ (ciphers : Ciphers) (opens : OpensWhatItSeals ciphers) (v : World) (s t
       (all_go_along ciphers opens count far s.granted.address first.address last.1.address datagram cut.contents cut.fits cut.Held cut.ends s t rest
       base (first, fit_of v (t ∷ rest) ready) straight route cut.more 0 v (base + 1) next (last_of t rest).memory.station.reassemblies
       (omega (arith, same)) (omega arith)
-      numbered cut.starts (all_at_first v count far rest s t ready route)
-      (λ k lt. record {
-        f = flight_for ciphers s.number s.granted s.key t.granted.address note (s.memory.station.counter.next + k)
-            (unit_with (own_mesh s.granted.address far) (cut.contents k));
-        mesh = own_mesh s.granted.address far;
-        note = note;
-        flown = fly k _ (cut.units_are k lt);
-        unlost = refl;
-        same = refl;
-        to = refl;
-        origin_is = refl;
-        few = omega arith;
-        enough = omega (arith, short);
-      })
+      numbered cut.starts (all_at_first v count far rest s t ready route) ways
       (let budget : count * (1 + length rest) ≡ (cut.more + 1) * (1 + length rest) = ap (λ n. n * (1 + length rest)) (cut.some_frames ∙ omega arith) in
       omega (arith, room, budget)))
 
 -- # The law
+
+module _ (w : World) (s t : Stop) (rest : List Stop) (datagram : List ℕ) (may : MayCarry w s t rest datagram) where
+  pub cut_of : InFrames s (last_of t rest) datagram
+  cut_of = in_frames s (last_of t rest) datagram may.some may.few may.gathers
 
 module _ (ciphers : Ciphers) (opens : OpensWhatItSeals ciphers) (w : World) (s t : Stop) (rest : List Stop) (datagram : List ℕ)
     (may : MayCarry w s t rest datagram) where
@@ -479,14 +492,17 @@ module _ (ciphers : Ciphers) (opens : OpensWhatItSeals ciphers) (w : World) (s t
   abbrev all_frames : ℕ
   all_frames = pieces_of (length datagram)
 
-  abbrev goal : Type 0
-  goal =
-      IsBrought (answers.Sent ∷ all_answers all_frames rest) last.number datagram
-      (run ciphers w (events.Send s.number last.number datagram
-      ∷ all_deliveries all_frames (length w.flights + 1) ((length w.flights + 1) + all_frames) t rest))
+  abbrev cut : InFrames s last datagram
+  cut = cut_of w s t rest datagram may
 
-  arrives : goal
-  arrives =
+  -- It is sent, its frames fly to the first node, and then other events come.
+  pub sent_so : (more : List Event) (expected : List Answer)
+      → ((v : World) → AreReady v (t ∷ rest)
+      → ((k : ℕ) → k < all_frames
+      → IsUnderWay ciphers v (length w.flights + k) last.granted.address s.granted.address k s t (cut.contents k) (length rest))
+      → length v.flights ≡ length w.flights + all_frames → v.events ≡ w.events + 1 → IsBrought expected last.number datagram (run ciphers v more))
+      → IsBrought (answers.Sent ∷ expected) last.number datagram (run ciphers w (events.Send s.number last.number datagram ∷ more))
+  sent_so more expected goes =
       let some = may.some in
       let few = may.few in
       let short = may.short in
@@ -494,7 +510,6 @@ module _ (ciphers : Ciphers) (opens : OpensWhatItSeals ciphers) (w : World) (s t
       let ready : AreReady w (s ∷ t ∷ rest) = may.ready in
       let straight : IsStraight (s ∷ t ∷ rest) = may.straight in
       let route : HasRoute all_frames last.granted.address s (t ∷ rest) = may.route in
-      let cut : InFrames s last datagram = in_frames s last datagram some few may.gathers in
       let target = last_ready w t rest ready.2 in
       let first : IsReady s = ready.1 in
       let link : HasLink all_frames last.granted.address s t = route.0 in
@@ -513,19 +528,31 @@ module _ (ciphers : Ciphers) (opens : OpensWhatItSeals ciphers) (w : World) (s t
       ap length out.flights ∙ length-append w.flights new
       ∙ ap (λ n. length w.flights + n) (count_of ciphers s.number s.granted s.key t.granted.address (w.sends + 1) cut.us c ∙ cut.many) in
       let counted = out.events in
-      let more : List Event = all_deliveries all_frames (length w.flights + 1) ((length w.flights + 1) + all_frames) t rest in
-      let ahead : IsBrought (all_answers all_frames rest) last.number datagram (run ciphers r.0 more) =
-      fly_on ciphers opens r.0 s t rest datagram (length w.flights) (w.sends + 1) cut first
-      (all_there w r.0 s.number out.node (t ∷ rest) out.nodes straight.0 ready.2) straight.1 route short
-      (λ k unit e. ap (λ fs. slice_get fs (length w.flights + k)) out.flights ∙ get_after w.flights new (length w.flights + k) k refl
-      ∙ flies_at ciphers s.number s.granted s.key t.granted.address (w.sends + 1) cut.us c k unit e)
-      ((length w.flights + 1) + all_frames) (omega (arith, longer)) (omega (arith, room, counted)) in
-      let said = says_first (record { number = w.events + 1; event = event; trace = r.1; after = r.0 }) answers.Sent None (all_answers all_frames rest)
+      let fly : (k : ℕ) (unit : MeshUnit) → slice_get cut.us k ≡ Some unit
+      → slice_get r.0.flights (length w.flights + k)
+      ≡ Some (flight_for ciphers s.number s.granted s.key t.granted.address (w.sends + 1) (c + k) unit) =
+      λ k unit e. ap (λ fs. slice_get fs (length w.flights + k)) out.flights ∙ get_after w.flights new (length w.flights + k) k refl
+      ∙ flies_at ciphers s.number s.granted s.key t.granted.address (w.sends + 1) cut.us c k unit e in
+      let ahead : IsBrought expected last.number datagram (run ciphers r.0 more) =
+      goes r.0 (all_there w r.0 s.number out.node (t ∷ rest) out.nodes straight.0 ready.2)
+      (start_so ciphers r.0 s t rest datagram (length w.flights) (w.sends + 1) cut short fly) longer counted in
+      let said = says_first (record { number = w.events + 1; event = event; trace = r.1; after = r.0 }) answers.Sent None expected
       (record { node = last.number; note = ahead.note; octets = datagram } ∷ []) (run ciphers r.0 more) out.answer_is out.up_is
       (record { answers = ahead.answers; handed_is = ahead.up }) in
       let whole = runs_on ciphers w event more r (omega (arith, room)) step in
-      subst (λ es. IsBrought (answers.Sent ∷ all_answers all_frames rest) last.number datagram es) (sym whole)
+      subst (λ es. IsBrought (answers.Sent ∷ expected) last.number datagram es) (sym whole)
       (record { answers = said.answers; note = ahead.note; up = said.handed_is })
+
+  arrives : IsBrought (answers.Sent ∷ all_answers all_frames rest) last.number datagram
+      (run ciphers w (events.Send s.number last.number datagram
+      ∷ all_deliveries all_frames (length w.flights + 1) ((length w.flights + 1) + all_frames) t rest))
+  arrives =
+      let room = may.room in
+      let ready : AreReady w (s ∷ t ∷ rest) = may.ready in
+      let straight : IsStraight (s ∷ t ∷ rest) = may.straight in
+      sent_so (all_deliveries all_frames (length w.flights + 1) ((length w.flights + 1) + all_frames) t rest) (all_answers all_frames rest)
+      (λ v now ways longer counted. fly_on ciphers opens v s t rest datagram (length w.flights) cut ready.1 now straight.1 may.route ways
+      ((length w.flights + 1) + all_frames) (omega (arith, longer)) (omega (arith, room, counted)))
 
 pub arrive : DatagramsArrive
 arrive = arrives

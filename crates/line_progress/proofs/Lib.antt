@@ -8,6 +8,7 @@ pub mod Delivering
 pub mod Sending
 pub mod Routes
 pub mod Arriving
+pub mod AnyOrder
 pub mod Requests
 pub mod OfferedRoutes
 pub mod Seeking

@@ -148,7 +148,7 @@ AreNow w dest sent held s (t ∷ rest) =
     IsNow w dest s.granted.address (s.memory.station.counter.next + sent) sent held t × AreNow w dest sent held t rest
 
 -- a node that did nothing is as before
-still : (w v : World) (dest from next sent : ℕ) (held : List Reassembly) (s : Stop) → node_at v s.number ≡ node_at w s.number
+pub still : (w v : World) (dest from next sent : ℕ) (held : List Reassembly) (s : Stop) → node_at v s.number ≡ node_at w s.number
     → IsNow w dest from next sent held s → IsNow v dest from next sent held s
 still w v dest from next sent held s same now = record {
   node = now.node;
@@ -232,9 +232,7 @@ pub record Carried (ciphers : Ciphers) (dest sent : ℕ) (word : Answer) (Left :
       (run ciphers w (deliveries flight next t rest ++ more))
 
 module _ (ciphers : Ciphers) (opens : OpensWhatItSeals ciphers) (frames dest origin sent : ℕ) (here : IsAddress origin) (there : IsAddress dest)
-    (below : sent < frames) (content : Content) (fits : IsContent content) (held : List Reassembly) (word : Answer)
-    (Left : List Reassembly → Type 0) (IsSaid : Option Up → Type 0)
-    (ends : (l : StationMemory) (note now : ℕ) → l.reassemblies ≡ held → Ends content origin word Left IsSaid l note now) where
+    (below : sent < frames) (content : Content) (fits : IsContent content) (held : List Reassembly) where
   sealable : (s t : Stop) (mesh : Mesh) (note : ℕ) → IsReady s → IsReady t → HasLink frames dest s t → mesh.hops ≤ 14 → mesh.origin ≡ origin
       → mesh.to ≡ dest → IsSealable (sealed_for s t sent (unit_with mesh content) note)
   sealable s t mesh note ready next link few from to =
@@ -256,27 +254,27 @@ module _ (ciphers : Ciphers) (opens : OpensWhatItSeals ciphers) (frames dest ori
   module _ (w : World) (place : ℕ) (s t : Stop) (more : ℕ) (first : IsReady s) (ready : IsReady t) (link : HasLink frames dest s t)
       (now : IsNow w dest s.granted.address (s.memory.station.counter.next + sent) sent held t)
       (way : IsUnderWay ciphers w place dest origin sent s t content more) where
-    abbrev u : SealedUnit
+    abbrev pub u : SealedUnit
     u = sealed_for s t sent (unit_with way.mesh content) way.note
 
-    u_fits : IsSealable u
+    pub u_fits : IsSealable u
     u_fits = sealable s t way.mesh way.note first ready link way.few way.origin_is way.to
 
     -- what comes of the flight at the node
-    abbrev came : World × Trace
+    abbrev pub came : World × Trace
     came = comes ciphers w t.number now.node (spelled ciphers (Sealed u)).octets t.cost
 
-    step_is : (flight : ℕ) → flight ≡ place + 1 → line_step ciphers w (events.Deliver flight t.number t.cost) ≡ Ok came
+    pub step_is : (flight : ℕ) → flight ≡ place + 1 → line_step ciphers w (events.Deliver flight t.number t.cost) ≡ Ok came
     step_is flight number =
         delivered ciphers w flight t.number t.cost now.node way.f now.there (at_place w flight place number ∙ way.flown) way.unlost
         ∙ ap (λ octets. Ok (comes ciphers w t.number now.node octets t.cost)) way.same
 
-    abbrev note_now : ℕ
+    abbrev pub note_now : ℕ
     note_now =
         note_is ciphers opens w t.number t.cost now.node now.memory t.granted now.runs now.spared now.ring u u_fits way.mesh content refl
         refl (no_target t ready) link.apart link.opens now.admits
 
-    abbrev marked_now : StationMemory
+    abbrev pub marked_now : StationMemory
     marked_now =
         marked ciphers opens w t.number t.cost now.node now.memory t.granted now.runs now.spared now.ring u u_fits way.mesh content refl
         refl (no_target t ready) link.apart link.opens now.admits
@@ -290,7 +288,7 @@ module _ (ciphers : Ciphers) (opens : OpensWhatItSeals ciphers) (frames dest ori
     unfolding marking
     ring_now = now.ring
 
-    gathers_now : marked_now.reassemblies ≡ now.memory.station.reassemblies
+    pub gathers_now : marked_now.reassemblies ≡ now.memory.station.reassemblies
     unfolding marking
     gathers_now = refl
 
@@ -308,11 +306,13 @@ module _ (ciphers : Ciphers) (opens : OpensWhatItSeals ciphers) (frames dest ori
         ap (λ ns. slice_get ns t.number) nodes ∙ slice_get-set w.nodes t.number y (place_within w.nodes t.number now.node now.there)
 
     -- at the end of the route the unit is taken up
-    module _ (at : t.granted.address ≡ dest) where
-      abbrev end : Ends content origin word Left IsSaid marked_now note_now w.clock
+    module _ (word : Answer) (Left : List Reassembly → Type 0) (IsSaid : Option Up → Type 0)
+        (ends : (l : StationMemory) (note now : ℕ) → l.reassemblies ≡ held → Ends content origin word Left IsSaid l note now)
+        (at : t.granted.address ≡ dest) where
+      abbrev pub end : Ends content origin word Left IsSaid marked_now note_now w.clock
       end = ends marked_now note_now w.clock (gathers_now ∙ now.gathers at)
 
-      abbrev gathered_now : StationMemory
+      abbrev pub gathered_now : StationMemory
       gathered_now = record marked_now { reassemblies = end.left }
 
       hears_last : Hears (hear marked_now (got_of u) t.cost note_now w.clock) end.answer [] gathered_now
@@ -321,12 +321,12 @@ module _ (ciphers : Ciphers) (opens : OpensWhatItSeals ciphers) (frames dest ori
           (sym (is_taken_up marked_now t.granted ring_now u.from u.key way.mesh content (got_of u).payload reads_now t.cost note_now w.clock
           (way.to ∙ sym at) ∙ ap (λ o. taken_up marked_now content o note_now w.clock) way.origin_is)) end.hears
 
-      comes_last : Goes ciphers w t.number (station_reception end.answer) [] (with_station gathered_now now.memory) came
+      pub comes_last : Goes ciphers w t.number (station_reception end.answer) [] (with_station gathered_now now.memory) came
       comes_last =
           frame_comes ciphers opens w t.number t.cost now.node now.memory t.granted now.runs now.spared now.ring u u_fits way.mesh content refl
           refl (no_target t ready) link.apart link.opens now.admits end.answer [] gathered_now hears_last end.read
 
-      last_now : IsNow came.0 dest s.granted.address (s.memory.station.counter.next + (sent + 1)) (sent + 1) end.left t
+      pub last_now : IsNow came.0 dest s.granted.address (s.memory.station.counter.next + (sent + 1)) (sent + 1) end.left t
       unfolding marking
       last_now = record {
         node = comes_last.node;
@@ -357,10 +357,10 @@ module _ (ciphers : Ciphers) (opens : OpensWhatItSeals ciphers) (frames dest ori
           le-ltb (counters_left now.memory.station) 1 (omega (arith, below, left, counter_is))
 
       -- what it seals
-      abbrev onward : SealedUnit
+      abbrev pub onward : SealedUnit
       onward = record (sealed_for t next sent (unit_with (hop_less way.mesh) content) note_now) { counter = now.memory.station.counter.next }
 
-      comes_on : Goes ciphers w t.number (station_reception heard.Relayed) (Sealed onward ∷ []) (with_station (sent_one marked_now) now.memory) came
+      pub comes_on : Goes ciphers w t.number (station_reception heard.Relayed) (Sealed onward ∷ []) (with_station (sent_one marked_now) now.memory) came
       unfolding marking
       comes_on =
           frame_comes ciphers opens w t.number t.cost now.node now.memory t.granted now.runs now.spared now.ring u u_fits way.mesh content refl
@@ -368,7 +368,7 @@ module _ (ciphers : Ciphers) (opens : OpensWhatItSeals ciphers) (frames dest ori
           (goes_on marked_now t.granted ring_now u.from u.key way.mesh content (got_of u).payload reads_now t.cost note_now w.clock
           (λ e. onto.on (sym e ∙ way.to)) next.granted.address route_now (let enough = way.enough in omega arith) left_now t.key ready.key) refl
 
-      on_now : (any : List Reassembly) → IsNow came.0 dest s.granted.address (s.memory.station.counter.next + (sent + 1)) (sent + 1) any t
+      pub on_now : (any : List Reassembly) → IsNow came.0 dest s.granted.address (s.memory.station.counter.next + (sent + 1)) (sent + 1) any t
       unfolding marking
       on_now any = record {
         node = comes_on.node;
@@ -384,7 +384,7 @@ module _ (ciphers : Ciphers) (opens : OpensWhatItSeals ciphers) (frames dest ori
       }
 
       -- the flight that it adds is under way to the next node
-      on_its_way : (rest : ℕ) → rest < more → IsUnderWay ciphers came.0 (length w.flights) dest origin sent t next content rest
+      pub on_its_way : (rest : ℕ) → rest < more → IsUnderWay ciphers came.0 (length w.flights) dest origin sent t next content rest
       on_its_way rest fewer = record {
         f = flight_by t.number (spelled ciphers (Sealed onward));
         mesh = hop_less way.mesh;
@@ -398,64 +398,67 @@ module _ (ciphers : Ciphers) (opens : OpensWhatItSeals ciphers) (frames dest ori
         enough = let enough = way.enough in omega (arith, enough, fewer);
       }
 
-  pub carry : (rest : List Stop) (w : World) (place flight next : ℕ) (s t : Stop) → flight ≡ place + 1 → next ≡ length w.flights + 1
-      → AreFit (s ∷ t ∷ rest) → IsStraight (t ∷ rest) → HasRoute frames dest s (t ∷ rest) → AreNow w dest sent held s (t ∷ rest)
-      → IsUnderWay ciphers w place dest origin sent s t content (length rest) → w.events + (1 + length rest) ≤ MAX_EVENTS
-      → Carried ciphers dest sent word Left IsSaid w flight next s t rest
-  carry [] w place flight next s t number after fit straight route now way room =
-      let r : World × Trace = came w place s t 0 fit.0 fit.1.0 route.0 now.0 way in
-      let goes = comes_last w place s t 0 fit.0 fit.1.0 route.0 now.0 way route.1 in
-      let over = end w place s t 0 fit.0 fit.1.0 route.0 now.0 way route.1 in
-      let event : Event = events.Deliver flight t.number t.cost in
-      record {
-        world = r.0;
-        left = over.left;
-        good = over.good;
-        up = (station_reception over.answer).up;
-        said = over.said;
-        now = (last_now w place s t 0 fit.0 fit.1.0 route.0 now.0 way route.1, tt);
-        others = λ number none. ap (λ ns. slice_get ns number) goes.nodes
-            ∙ slice_get-set_other w.nodes t.number number goes.node (λ e. none.0 (sym e));
-        stays = λ k f e. ap (λ fs. slice_get fs k) goes.flights ∙ get_before w.flights [] k f e;
-        flights = ap length goes.flights ∙ length-append w.flights [];
-        events = goes.events;
-        says = λ more expected handed h. subst (λ es. Says (word ∷ expected) (one_of (handed_by t.number (station_reception over.answer).up) ++ handed) es)
-            (sym (runs_on ciphers w event more r (omega (arith, room)) (step_is w place s t 0 fit.0 fit.1.0 route.0 now.0 way flight number)))
-            (says_first (record { number = w.events + 1; event = event; trace = r.1; after = r.0 }) word
-            (handed_by t.number (station_reception over.answer).up) expected handed (run ciphers r.0 more) (goes.answer_is ∙ over.word_is) goes.up_is h);
-      }
-  carry (z ∷ rest) w place flight next s t number after fit straight route now way room =
-      let more : ℕ = length (z ∷ rest) in
-      let some : 1 ≤ more = omega arith in
-      let r : World × Trace = came w place s t more fit.0 fit.1.0 route.0 now.0 way in
-      let goes = comes_on w place s t more fit.0 fit.1.0 route.0 now.0 way z route.1.0 some in
-      let event : Event = events.Deliver flight t.number t.cost in
-      let longer : length r.0.flights ≡ length w.flights + 1 = ap length goes.flights ∙ length-append w.flights _ in
-      let counted : r.0.events ≡ w.events + 1 = goes.events in
-      let ahead = carry rest r.0 (length w.flights) next (next + 1) t z after (omega (arith, after, longer)) fit.1 straight.1 route.1
-      (all_still w r.0 t.number goes.node dest sent held t (z ∷ rest) goes.nodes straight.0 now.1)
-      (on_its_way w place s t more fit.0 fit.1.0 route.0 now.0 way z route.1.0 some (length rest) (omega arith)) (omega (arith, room, counted)) in
-      record {
-        world = ahead.world;
-        left = ahead.left;
-        good = ahead.good;
-        up = ahead.up;
-        said = ahead.said;
-        now = (
-          still r.0 ahead.world dest s.granted.address (s.memory.station.counter.next + (sent + 1)) (sent + 1) ahead.left t
-              (ahead.others t.number straight.0) (on_now w place s t more fit.0 fit.1.0 route.0 now.0 way z route.1.0 some ahead.left),
-          ahead.now,
-        );
-        others = λ number none. ahead.others number none.1 ∙ ap (λ ns. slice_get ns number) goes.nodes
-            ∙ slice_get-set_other w.nodes t.number number goes.node (λ e. none.0 (sym e));
-        stays = λ k f e. ahead.stays k f (ap (λ fs. slice_get fs k) goes.flights ∙ get_before w.flights _ k f e);
-        flights = let all = ahead.flights in omega (arith, all, longer);
-        events = let all = ahead.events in omega (arith, all, counted);
-        says = λ further expected handed h. subst (λ es. Says (answers.Relayed ∷ (delivery_answers word rest ++ expected))
-            (one_of (handed_by (last_of z rest).number ahead.up) ++ handed) es)
-            (sym (runs_on ciphers w event (deliveries next (next + 1) z rest ++ further) r (omega (arith, room))
-            (step_is w place s t more fit.0 fit.1.0 route.0 now.0 way flight number)))
-            (says_first (record { number = w.events + 1; event = event; trace = r.1; after = r.0 }) answers.Relayed None
-            (delivery_answers word rest ++ expected) (one_of (handed_by (last_of z rest).number ahead.up) ++ handed)
-            (run ciphers r.0 (deliveries next (next + 1) z rest ++ further)) goes.answer_is goes.up_is (ahead.says further expected handed h));
-      }
+  module _ (word : Answer) (Left : List Reassembly → Type 0) (IsSaid : Option Up → Type 0)
+      (ends : (l : StationMemory) (note now : ℕ) → l.reassemblies ≡ held → Ends content origin word Left IsSaid l note now) where
+    pub carry : (rest : List Stop) (w : World) (place flight next : ℕ) (s t : Stop) → flight ≡ place + 1 → next ≡ length w.flights + 1
+        → AreFit (s ∷ t ∷ rest) → IsStraight (t ∷ rest) → HasRoute frames dest s (t ∷ rest) → AreNow w dest sent held s (t ∷ rest)
+        → IsUnderWay ciphers w place dest origin sent s t content (length rest) → w.events + (1 + length rest) ≤ MAX_EVENTS
+        → Carried ciphers dest sent word Left IsSaid w flight next s t rest
+    carry [] w place flight next s t number after fit straight route now way room =
+        let r : World × Trace = came w place s t 0 fit.0 fit.1.0 route.0 now.0 way in
+        let goes = comes_last w place s t 0 fit.0 fit.1.0 route.0 now.0 way word Left IsSaid ends route.1 in
+        let over = end w place s t 0 fit.0 fit.1.0 route.0 now.0 way word Left IsSaid ends route.1 in
+        let event : Event = events.Deliver flight t.number t.cost in
+        record {
+          world = r.0;
+          left = over.left;
+          good = over.good;
+          up = (station_reception over.answer).up;
+          said = over.said;
+          now = (last_now w place s t 0 fit.0 fit.1.0 route.0 now.0 way word Left IsSaid ends route.1, tt);
+          others = λ number none. ap (λ ns. slice_get ns number) goes.nodes
+              ∙ slice_get-set_other w.nodes t.number number goes.node (λ e. none.0 (sym e));
+          stays = λ k f e. ap (λ fs. slice_get fs k) goes.flights ∙ get_before w.flights [] k f e;
+          flights = ap length goes.flights ∙ length-append w.flights [];
+          events = goes.events;
+          says = λ more expected handed h. subst (λ es. Says (word ∷ expected)
+              (one_of (handed_by t.number (station_reception over.answer).up) ++ handed) es)
+              (sym (runs_on ciphers w event more r (omega (arith, room)) (step_is w place s t 0 fit.0 fit.1.0 route.0 now.0 way flight number)))
+              (says_first (record { number = w.events + 1; event = event; trace = r.1; after = r.0 }) word
+              (handed_by t.number (station_reception over.answer).up) expected handed (run ciphers r.0 more) (goes.answer_is ∙ over.word_is) goes.up_is h);
+        }
+    carry (z ∷ rest) w place flight next s t number after fit straight route now way room =
+        let more : ℕ = length (z ∷ rest) in
+        let some : 1 ≤ more = omega arith in
+        let r : World × Trace = came w place s t more fit.0 fit.1.0 route.0 now.0 way in
+        let goes = comes_on w place s t more fit.0 fit.1.0 route.0 now.0 way z route.1.0 some in
+        let event : Event = events.Deliver flight t.number t.cost in
+        let longer : length r.0.flights ≡ length w.flights + 1 = ap length goes.flights ∙ length-append w.flights _ in
+        let counted : r.0.events ≡ w.events + 1 = goes.events in
+        let ahead = carry rest r.0 (length w.flights) next (next + 1) t z after (omega (arith, after, longer)) fit.1 straight.1 route.1
+        (all_still w r.0 t.number goes.node dest sent held t (z ∷ rest) goes.nodes straight.0 now.1)
+        (on_its_way w place s t more fit.0 fit.1.0 route.0 now.0 way z route.1.0 some (length rest) (omega arith)) (omega (arith, room, counted)) in
+        record {
+          world = ahead.world;
+          left = ahead.left;
+          good = ahead.good;
+          up = ahead.up;
+          said = ahead.said;
+          now = (
+            still r.0 ahead.world dest s.granted.address (s.memory.station.counter.next + (sent + 1)) (sent + 1) ahead.left t
+                (ahead.others t.number straight.0) (on_now w place s t more fit.0 fit.1.0 route.0 now.0 way z route.1.0 some ahead.left),
+            ahead.now,
+          );
+          others = λ number none. ahead.others number none.1 ∙ ap (λ ns. slice_get ns number) goes.nodes
+              ∙ slice_get-set_other w.nodes t.number number goes.node (λ e. none.0 (sym e));
+          stays = λ k f e. ahead.stays k f (ap (λ fs. slice_get fs k) goes.flights ∙ get_before w.flights _ k f e);
+          flights = let all = ahead.flights in omega (arith, all, longer);
+          events = let all = ahead.events in omega (arith, all, counted);
+          says = λ further expected handed h. subst (λ es. Says (answers.Relayed ∷ (delivery_answers word rest ++ expected))
+              (one_of (handed_by (last_of z rest).number ahead.up) ++ handed) es)
+              (sym (runs_on ciphers w event (deliveries next (next + 1) z rest ++ further) r (omega (arith, room))
+              (step_is w place s t more fit.0 fit.1.0 route.0 now.0 way flight number)))
+              (says_first (record { number = w.events + 1; event = event; trace = r.1; after = r.0 }) answers.Relayed None
+              (delivery_answers word rest ++ expected) (one_of (handed_by (last_of z rest).number ahead.up) ++ handed)
+              (run ciphers r.0 (deliveries next (next + 1) z rest ++ further)) goes.answer_is goes.up_is (ahead.says further expected handed h));
+        }
