@@ -12,7 +12,6 @@ use Rattle.fragment_buffers.specs.Reassembly.{Reassembly}
 use Rattle.node_rules.specs.Ciphers.{Ciphers, OpensWhatItSeals}
 use Rattle.node_rules.specs.Memory.{StationMemory}
 use Rattle.line_events.specs.declared.event.Answer.{Answer}
-use Rattle.line_events.specs.declared.event.Answer.TheVariants as answers
 use Rattle.line_events.specs.declared.event.Event.{Event}
 use Rattle.line_events.specs.declared.event.Event.TheVariants as events
 use Rattle.line_events.specs.declared.event.TheConstants.{MAX_EVENTS}
@@ -22,11 +21,11 @@ use Rattle.line_rules.specs.Further.{line_step}
 use Rattle.line_rules.specs.Runs.{one_of, run}
 use Rattle.line_rules.specs.Steps.{handed_by}
 use Rattle.line_rules.specs.Worlds.{World, Flight, Trace, node_at}
-use Rattle.line_progress.specs.Arrival.{Stop, HasRoute, AreReady, IsNoneOf, IsStraight, last_of, last_answer, IsBrought, MayCarry}
+use Rattle.line_progress.specs.Arrival.{Stop, IsReady, HasRoute, AreReady, IsNoneOf, IsStraight, last_of, last_answer, IsBrought}
 use Rattle.line_progress.specs.AnyOrder.{flights_over, in_all, none_over, ways_at_first, ways_after, next_after, delivery_over, answer_over}
 use Rattle.line_progress.specs.AnyOrder.{IsOrder, deliveries_over, answers_over, DatagramsArriveInAnyOrder}
 use Rattle.line_progress.proofs.Contents.{Content, IsContent}
-use Rattle.line_progress.proofs.Arriving.{IsHanded, moved, all_at_first, cut_of, sent_so}
+use Rattle.line_progress.proofs.Arriving.{InFrames, IsHanded, moved, all_at_first, cut_of, sent_so}
 use Rattle.line_progress.proofs.Routes.{AreFit, IsNow, AreNow, IsUnderWay, Ends, Says, fit_of, last_ready, says_first, runs_on, still, get_before}
 use Rattle.line_progress.proofs.Routes.{came, step_is, end, comes_last, last_now, comes_on, on_now, on_its_way}
 
@@ -457,54 +456,58 @@ none_long (t ∷ rest) =
     let long = more.0 in
     let none = more.1 in (omega (arith, long), omega (arith, none))
 
-module _ (ciphers : Ciphers) (opens : OpensWhatItSeals ciphers) (w : World) (s t : Stop) (rest : List Stop) (datagram : List ℕ)
-    (may : MayCarry w s t rest datagram) (order : List ℕ) where
-  abbrev last : Stop
-  last = last_of t rest
+budget : (first frames : ℕ) (rest : List Stop) → to_come (ways_at_first first frames rest) ≡ frames * (1 + length rest)
+budget first frames rest =
+    let none = none_long rest in
+    let zero_left = none.1 in
+    let same : length (range_with_len first frames) * (1 + length (none_over rest)) ≡ frames * (1 + length rest) =
+    (λ i. length-range_with_len first frames i * (1 + none.0 i)) in
+    omega (arith, same, zero_left)
 
+module _ (ciphers : Ciphers) (opens : OpensWhatItSeals ciphers) (v : World) (s t : Stop) (rest : List Stop) (datagram : List ℕ) (base : ℕ)
+    (cut : InFrames s (last_of t rest) datagram) (first : IsReady s) (ready : AreReady v (t ∷ rest)) (straight : IsStraight (t ∷ rest))
+    (route : HasRoute (pieces_of (length datagram)) (last_of t rest).granted.address s (t ∷ rest))
+    (fly : (k : ℕ) → k < pieces_of (length datagram)
+    → IsUnderWay ciphers v (base + k) (last_of t rest).granted.address s.granted.address k s t (cut.contents k) (length rest))
+    (next : ℕ) (numbered : next ≡ length v.flights + 1)
+    (room : v.events + pieces_of (length datagram) * (1 + length rest) ≤ MAX_EVENTS) where
   abbrev count : ℕ
   count = pieces_of (length datagram)
 
-  abbrev first : ℕ
-  first = length w.flights + 1
+  abbrev far : ℕ
+  far = (last_of t rest).granted.address
 
   abbrev ways : List (List ℕ)
-  ways = ways_at_first first count rest
+  ways = ways_at_first (base + 1) count rest
 
-  budget : to_come ways ≡ count * (1 + length rest)
-  budget =
-      let none = none_long rest in
-      let zero_left = none.1 in
-      let same : length (range_with_len first count) * (1 + length (none_over rest)) ≡ count * (1 + length rest) =
-      (λ i. length-range_with_len first count i * (1 + none.0 i)) in
-      omega (arith, same, zero_left)
-
-  arrives : IsOrder (first + count) ways order → IsBrought (answers.Sent ∷ answers_over (first + count) ways order) last.number datagram
-      (run ciphers w (events.Send s.number last.number datagram ∷ deliveries_over (first + count) (t ∷ rest) ways order))
-  arrives is =
-      let room = may.room in
-      let cost = budget in
-      let cut = cut_of w s t rest datagram may in
-      let far : ℕ = last.granted.address in
-      let ready : AreReady w (s ∷ t ∷ rest) = may.ready in
-      let straight : IsStraight (s ∷ t ∷ rest) = may.straight in
-      let route : HasRoute count far s (t ∷ rest) = may.route in
-      let target = last_ready w t rest ready.2 in
-      let held : List Reassembly = last.memory.station.reassemblies in
+  -- frames that fly to the first node come to the last one
+  pub fly_in_order : (order : List ℕ) → IsOrder next ways order → IsBrought (answers_over next ways order) (last_of t rest).number datagram
+      (run ciphers v (deliveries_over next (t ∷ rest) ways order))
+  fly_in_order order is =
+      let cost = budget (base + 1) count rest in
+      let target = last_ready v t rest ready in
+      let held : List Reassembly = (last_of t rest).memory.station.reassemblies in
       let same : suc cut.more ≡ count = sym cut.some_frames in
-      sent_so ciphers opens w s t rest datagram may (deliveries_over (first + count) (t ∷ rest) ways order) (answers_over (first + count) ways order)
-      (λ v now fly longer counted. all_come ciphers opens count far s.granted.address ready.1.address target.1.address datagram cut.contents cut.fits
-      cut.Held cut.ends s (t ∷ rest) (ready.1, fit_of v (t ∷ rest) now) straight.1 route order ways v (first + count) 0 cut.more held
-      (omega (arith, same)) (omega (arith, longer)) cut.starts
-      (let at = all_at_first v count far rest s t now route in (
+      let at = all_at_first v count far rest s t ready route in
+      all_come ciphers opens count far s.granted.address first.address target.1.address datagram cut.contents cut.fits cut.Held cut.ends s (t ∷ rest)
+      (first, fit_of v (t ∷ rest) ready) straight route order ways v next 0 cut.more held (omega (arith, same)) numbered cut.starts (
         0,
         record {
-          all = let long = length-range_with_len first count in omega (arith, long);
+          all = let long = length-range_with_len (base + 1) count in omega (arith, long);
           now = at.0;
-          fly = all_fly ciphers far s.granted.address cut.contents v (length w.flights) 0 count first count s t (length rest) (omega arith) (omega arith) fly;
+          fly = all_fly ciphers far s.granted.address cut.contents v base 0 count (base + 1) count s t (length rest) (omega arith) (omega arith) fly;
         },
         none_go ciphers far s.granted.address cut.contents v held t rest at.1,
-      )) is (omega (arith, room, cost, counted)))
+      ) is (omega (arith, room, cost))
 
 pub arrive_so : DatagramsArriveInAnyOrder
-arrive_so = arrives
+arrive_so ciphers opens w s t rest datagram may order is =
+    let room = may.room in
+    let ready : AreReady w (s ∷ t ∷ rest) = may.ready in
+    let straight : IsStraight (s ∷ t ∷ rest) = may.straight in
+    let frames : ℕ = pieces_of (length datagram) in
+    let next : ℕ = (length w.flights + 1) + frames in
+    let ways : List (List ℕ) = ways_at_first (length w.flights + 1) frames rest in
+    sent_so ciphers opens w s t rest datagram may (deliveries_over next (t ∷ rest) ways order) (answers_over next ways order)
+    (λ v now fly longer counted. fly_in_order ciphers opens v s t rest datagram (length w.flights) (cut_of w s t rest datagram may) ready.1 now
+    straight.1 may.route fly next (omega (arith, longer)) (omega (arith, room, counted)) order is)

@@ -1,6 +1,6 @@
--- A datagram arrives along a route that may carry it: by induction on its frames.
+-- A datagram that is sent along a route that may carry it: how it is cut, that its frames fly to the first node, and what comes of each at the last one.
 use Rattle.std.proofs.Common.{◌≡◌, ℕ, zero, suc, ◌+◌, ◌*◌, ◌<◌, ◌≤◌, ◌⊎◌, inl, inr, Bool, true, false, ◌||◌, List, [], ◌∷◌, ◌++◌, length, map}
-use Rattle.std.proofs.Common.{Option, Some, None, Ok, refl, sym, ap, subst, ◌∙◌, arith, suc-mul}
+use Rattle.std.proofs.Common.{Option, Some, None, Ok, refl, sym, ap, subst, ◌∙◌, arith}
 use Rattle.std.specs.Prelude.{if◌then◌else◌, nat_le, nat_lt, slice_get, ◌==◌}
 use Rattle.std.specs.Int.{div_ceil}
 use Rattle.std.specs.List.{range_with_len}
@@ -10,7 +10,6 @@ use Rattle.std.proofs.Math.Bool.{or-false}
 use Rattle.std.proofs.lemmas.List.{length-append, length-map}
 use Rattle.std.proofs.lemmas.List.FromFn.{length-map-range_with_len}
 use Rattle.plc_base.specs.declared.key.Key.{Key}
-use Rattle.plc_base.specs.Addresses.{IsAddress}
 use Rattle.plc_base.specs.Grant.{Granted}
 use Rattle.plc_base.specs.Keeper.{Write}
 use Rattle.frame_counters.specs.PeerMarks.{room_for}
@@ -35,21 +34,19 @@ use Rattle.line_events.specs.declared.event.Answer.{Answer}
 use Rattle.line_events.specs.declared.event.Answer.TheVariants as answers
 use Rattle.line_events.specs.declared.event.Event.{Event}
 use Rattle.line_events.specs.declared.event.Event.TheVariants as events
-use Rattle.line_events.specs.declared.event.TheConstants.{MAX_EVENTS}
-use Rattle.line_events.specs.declared.happenings.Handed.{Handed}
 use Rattle.line_rules.specs.Answers.{Up}
-use Rattle.line_rules.specs.Runs.{one_of, run}
-use Rattle.line_rules.specs.Steps.{flight_by, handed_by, sends_by}
+use Rattle.line_rules.specs.Runs.{run}
+use Rattle.line_rules.specs.Steps.{flight_by, sends_by}
 use Rattle.line_rules.specs.Worlds.{World, Flight, Trace, node_at}
-use Rattle.line_progress.specs.Arrival.{Stop, IsReady, HasLink, HasRoute, AreReady, IsStraight, last_of, all_deliveries, all_answers, last_answer, IsBrought}
-use Rattle.line_progress.specs.Arrival.{MayCarry, MayGather, DatagramsArrive}
+use Rattle.line_progress.specs.Arrival.{Stop, IsReady, HasLink, HasRoute, AreReady, IsStraight, last_of, last_answer, IsBrought}
+use Rattle.line_progress.specs.Arrival.{MayCarry, MayGather}
 use Rattle.line_progress.proofs.Contents.{Content, Entire, Piece, IsContent, unit_with, entire_fits, piece_in_range}
 use Rattle.line_progress.proofs.Hearing.{Hears}
-use Rattle.line_progress.proofs.Routes.{AreFit, fit_of, IsNow, AreNow, IsUnderWay, Ends, says_first, get_after, carry, Carried, runs_on}
+use Rattle.line_progress.proofs.Routes.{IsNow, AreNow, IsUnderWay, Ends, says_first, get_after, runs_on}
 use Rattle.line_progress.proofs.Routes.{address_is, all_there, last_ready}
 use Rattle.line_progress.proofs.Sending.{IsCut, it_leaves, sends_it, steps_so, takes_next, takes_none}
 
--- # The frames of a datagram go along the route
+-- # The frames of a datagram
 
 -- what is handed up with a frame, where so many more are to come: nothing, and the datagram with the last one
 abbrev pub IsHanded : List ℕ → ℕ → Option Up → Type 0
@@ -72,47 +69,6 @@ moved ciphers w v place dest origin sent s t content more stays way = record {
   few = way.few;
   enough = way.enough;
 }
-
-module _ (ciphers : Ciphers) (opens : OpensWhatItSeals ciphers) (frames dest origin : ℕ) (here : IsAddress origin) (there : IsAddress dest)
-    (datagram : List ℕ) (contents : ℕ → Content) (fits : (k : ℕ) → k < frames → IsContent (contents k)) (Held : ℕ → List Reassembly → Type 0)
-    (ends : (sent more : ℕ) → sent + (more + 1) ≡ frames → (held : List Reassembly) → Held sent held → (l : StationMemory) (note now : ℕ)
-    → l.reassemblies ≡ held → Ends (contents sent) origin (last_answer more) (Held (sent + 1)) (IsHanded datagram more) l note now)
-    (s t : Stop) (rest : List Stop) (base : ℕ) (fit : AreFit (s ∷ t ∷ rest)) (straight : IsStraight (t ∷ rest))
-    (route : HasRoute frames dest s (t ∷ rest)) where
-  -- the frames fly to the first node after the sender
-  abbrev AllFly : World → Type 0
-  AllFly w = (k : ℕ) → k < frames → IsUnderWay ciphers w (base + k) dest origin k s t (contents k) (length rest)
-
-  one_goes : (sent more : ℕ) (w : World) (flight next : ℕ) (held : List Reassembly) → sent + (more + 1) ≡ frames → flight ≡ (base + sent) + 1
-      → next ≡ length w.flights + 1 → Held sent held → AreNow w dest sent held s (t ∷ rest) → AllFly w → w.events + (1 + length rest) ≤ MAX_EVENTS
-      → Carried ciphers dest sent (last_answer more) (Held (sent + 1)) (IsHanded datagram more) w flight next s t rest
-  one_goes sent more w flight next held all number numbered holds now ways room =
-      carry ciphers opens frames dest origin sent here there (omega (arith, all)) (contents sent) (fits sent (omega (arith, all))) held (last_answer more)
-      (Held (sent + 1)) (IsHanded datagram more) (ends sent more all held holds) rest w (base + sent) flight next s t number numbered fit straight route
-      now (ways sent (omega (arith, all))) room
-
-  -- the frames that are left
-  pub all_go_along : (more sent : ℕ) (w : World) (flight next : ℕ) (held : List Reassembly) → sent + (more + 1) ≡ frames → flight ≡ (base + sent) + 1
-      → next ≡ length w.flights + 1 → Held sent held → AreNow w dest sent held s (t ∷ rest) → AllFly w
-      → w.events + (more + 1) * (1 + length rest) ≤ MAX_EVENTS
-      → IsBrought (all_answers (suc more) rest) (last_of t rest).number datagram (run ciphers w (all_deliveries (suc more) flight next t rest))
-  all_go_along zero sent w flight next held all number numbered holds now ways room =
-      let one = one_goes sent zero w flight next held all number numbered holds now ways (omega (arith, room)) in
-      let said = one.says [] [] [] (record { answers = refl; handed_is = refl }) in
-      record { answers = said.answers; note = one.said.0; up = said.handed_is ∙ (λ i. one_of (handed_by (last_of t rest).number (one.said.1 i)) ++ []) }
-  all_go_along (suc more) sent w flight next held all number numbered holds now ways room =
-      let split : (suc more + 1) * (1 + length rest) ≡ (more + 1) * (1 + length rest) + (1 + length rest) =
-      ap (λ n. n * (1 + length rest)) (omega arith) ∙ suc-mul (more + 1) (1 + length rest) in
-      let one = one_goes sent (suc more) w flight next held all number numbered holds now ways (omega (arith, room, split)) in
-      let longer = one.flights in
-      let counted = one.events in
-      let ahead = all_go_along more (sent + 1) one.world (flight + 1) (next + length rest) one.left (omega (arith, all)) (omega (arith, number))
-      (omega (arith, numbered, longer)) one.good one.now
-      (λ k lt. moved ciphers w one.world (base + k) dest origin k s t (contents k) (length rest) one.stays (ways k lt)) (omega (arith, room, split, counted)) in
-      let brought : List Handed = record { node = (last_of t rest).number; note = ahead.note; octets = datagram } ∷ [] in
-      let said = one.says (all_deliveries (suc more) (flight + 1) (next + length rest) t rest) (all_answers (suc more) rest) brought
-      (record { answers = ahead.answers; handed_is = ahead.up }) in
-      record { answers = said.answers; note = ahead.note; up = said.handed_is ∙ (λ i. one_of (handed_by (last_of t rest).number (one.said i)) ++ brought) }
 
 -- # They fly when they are sent
 
@@ -429,7 +385,7 @@ module _ (s z : Stop) (datagram : List ℕ) (some : 0 < length datagram) (few : 
       by_size true small = in_one small
       by_size false big = in_parts big (gathers (let long = leb-false _ _ big in omega (arith, long)))
 
--- # Frames that fly go along the route
+-- # Its frames are under way
 
 -- they are under way to the first node
 pub start_so : (ciphers : Ciphers) (v : World) (s t : Stop) (rest : List Stop) (datagram : List ℕ) (base note : ℕ)
@@ -453,32 +409,7 @@ start_so ciphers v s t rest datagram base note cut short fly k lt = record {
   enough = omega (arith, short);
 }
 
-module _ (ciphers : Ciphers) (opens : OpensWhatItSeals ciphers) (v : World) (s t : Stop) (rest : List Stop) (datagram : List ℕ) (base : ℕ)
-    (cut : InFrames s (last_of t rest) datagram) (first : IsReady s) (ready : AreReady v (t ∷ rest)) (straight : IsStraight (t ∷ rest))
-    (route : HasRoute (pieces_of (length datagram)) (last_of t rest).granted.address s (t ∷ rest))
-    (ways : (k : ℕ) → k < pieces_of (length datagram)
-    → IsUnderWay ciphers v (base + k) (last_of t rest).granted.address s.granted.address k s t (cut.contents k) (length rest))
-    (next : ℕ) (numbered : next ≡ length v.flights + 1)
-    (room : v.events + pieces_of (length datagram) * (1 + length rest) ≤ MAX_EVENTS) where
-  abbrev far : ℕ
-  far = (last_of t rest).granted.address
-
-  abbrev count : ℕ
-  count = pieces_of (length datagram)
-
-  pub fly_on : IsBrought (all_answers count rest) (last_of t rest).number datagram (run ciphers v (all_deliveries count (base + 1) next t rest))
-  fly_on =
-      let last = last_ready v t rest ready in
-      let same : suc cut.more ≡ count = sym cut.some_frames in
-      subst (λ n. IsBrought (all_answers n rest) (last_of t rest).number datagram (run ciphers v (all_deliveries n (base + 1) next t rest))) same
-      (all_go_along ciphers opens count far s.granted.address first.address last.1.address datagram cut.contents cut.fits cut.Held cut.ends s t rest
-      base (first, fit_of v (t ∷ rest) ready) straight route cut.more 0 v (base + 1) next (last_of t rest).memory.station.reassemblies
-      (omega (arith, same)) (omega arith)
-      numbered cut.starts (all_at_first v count far rest s t ready route) ways
-      (let budget : count * (1 + length rest) ≡ (cut.more + 1) * (1 + length rest) = ap (λ n. n * (1 + length rest)) (cut.some_frames ∙ omega arith) in
-      omega (arith, room, budget)))
-
--- # The law
+-- # It is sent
 
 module _ (w : World) (s t : Stop) (rest : List Stop) (datagram : List ℕ) (may : MayCarry w s t rest datagram) where
   pub cut_of : InFrames s (last_of t rest) datagram
@@ -542,17 +473,3 @@ module _ (ciphers : Ciphers) (opens : OpensWhatItSeals ciphers) (w : World) (s t
       let whole = runs_on ciphers w event more r (omega (arith, room)) step in
       subst (λ es. IsBrought (answers.Sent ∷ expected) last.number datagram es) (sym whole)
       (record { answers = said.answers; note = ahead.note; up = said.handed_is })
-
-  arrives : IsBrought (answers.Sent ∷ all_answers all_frames rest) last.number datagram
-      (run ciphers w (events.Send s.number last.number datagram
-      ∷ all_deliveries all_frames (length w.flights + 1) ((length w.flights + 1) + all_frames) t rest))
-  arrives =
-      let room = may.room in
-      let ready : AreReady w (s ∷ t ∷ rest) = may.ready in
-      let straight : IsStraight (s ∷ t ∷ rest) = may.straight in
-      sent_so (all_deliveries all_frames (length w.flights + 1) ((length w.flights + 1) + all_frames) t rest) (all_answers all_frames rest)
-      (λ v now ways longer counted. fly_on ciphers opens v s t rest datagram (length w.flights) cut ready.1 now straight.1 may.route ways
-      ((length w.flights + 1) + all_frames) (omega (arith, longer)) (omega (arith, room, counted)))
-
-pub arrive : DatagramsArrive
-arrive = arrives

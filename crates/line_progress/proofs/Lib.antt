@@ -9,6 +9,7 @@ pub mod Sending
 pub mod Routes
 pub mod Arriving
 pub mod AnyOrder
+pub mod PieceByPiece
 pub mod Requests
 pub mod OfferedRoutes
 pub mod Seeking

@@ -68,7 +68,8 @@ answer_over (suc j) word (flights ∷ ways) = answer_over j word ways
 
 -- # Deliveries in an order
 
--- Deliveries over links in an order: where the turn of a link comes, a flight is under way over it, and in the end none is over any.
+-- Deliveries over links in an order: where the turn of a link comes, a flight is under way over it, and in the end none is over any. So a link has at
+-- no time had more deliveries than the one before it, and in the end each has had one for each frame.
 abbrev pub IsOrder : (next : ℕ) → List (List ℕ) → List ℕ → Type 0
 IsOrder next ways [] = in_all ways ≡ 0
 IsOrder next ways (j ∷ order) = (0 < length (flights_over j ways)) × IsOrder (next_after next j ways) (ways_after next j ways) order
