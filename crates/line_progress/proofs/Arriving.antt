@@ -1,6 +1,6 @@
--- A datagram arrives along a route that may carry it: by induction on its frames.
+-- A datagram that is sent along a route that may carry it: how it is cut, that its frames fly to the first node, and what comes of each at the last one.
 use Rattle.std.proofs.Common.{◌≡◌, ℕ, zero, suc, ◌+◌, ◌*◌, ◌<◌, ◌≤◌, ◌⊎◌, inl, inr, Bool, true, false, ◌||◌, List, [], ◌∷◌, ◌++◌, length, map}
-use Rattle.std.proofs.Common.{Option, Some, None, Ok, refl, sym, ap, subst, ◌∙◌, arith, suc-mul}
+use Rattle.std.proofs.Common.{Option, Some, None, Ok, refl, sym, ap, subst, ◌∙◌, arith}
 use Rattle.std.specs.Prelude.{if◌then◌else◌, nat_le, nat_lt, slice_get, ◌==◌}
 use Rattle.std.specs.Int.{div_ceil}
 use Rattle.std.specs.List.{range_with_len}
@@ -10,7 +10,6 @@ use Rattle.std.proofs.Math.Bool.{or-false}
 use Rattle.std.proofs.lemmas.List.{length-append, length-map}
 use Rattle.std.proofs.lemmas.List.FromFn.{length-map-range_with_len}
 use Rattle.plc_base.specs.declared.key.Key.{Key}
-use Rattle.plc_base.specs.Addresses.{IsAddress}
 use Rattle.plc_base.specs.Grant.{Granted}
 use Rattle.plc_base.specs.Keeper.{Write}
 use Rattle.frame_counters.specs.PeerMarks.{room_for}
@@ -31,24 +30,23 @@ use Rattle.node_rules.specs.Frames.{Sent, Sealed, spelled}
 use Rattle.node_rules.specs.Hearing.{gathered}
 use Rattle.node_rules.specs.Memory.{StationMemory}
 use Rattle.node_rules.specs.Plans.{resting}
+use Rattle.line_events.specs.declared.event.Answer.{Answer}
 use Rattle.line_events.specs.declared.event.Answer.TheVariants as answers
 use Rattle.line_events.specs.declared.event.Event.{Event}
 use Rattle.line_events.specs.declared.event.Event.TheVariants as events
-use Rattle.line_events.specs.declared.event.TheConstants.{MAX_EVENTS}
-use Rattle.line_events.specs.declared.happenings.Handed.{Handed}
 use Rattle.line_rules.specs.Answers.{Up}
-use Rattle.line_rules.specs.Runs.{one_of, run}
-use Rattle.line_rules.specs.Steps.{flight_by, handed_by, sends_by}
+use Rattle.line_rules.specs.Runs.{run}
+use Rattle.line_rules.specs.Steps.{flight_by, sends_by}
 use Rattle.line_rules.specs.Worlds.{World, Flight, Trace, node_at}
-use Rattle.line_progress.specs.Arrival.{Stop, IsReady, HasLink, HasRoute, AreReady, IsStraight, last_of, all_deliveries, all_answers, last_answer, IsBrought}
-use Rattle.line_progress.specs.Arrival.{MayCarry, MayGather, DatagramsArrive}
+use Rattle.line_progress.specs.Arrival.{Stop, IsReady, HasLink, HasRoute, AreReady, IsStraight, last_of, last_answer, IsBrought}
+use Rattle.line_progress.specs.Arrival.{MayCarry, MayGather}
 use Rattle.line_progress.proofs.Contents.{Content, Entire, Piece, IsContent, unit_with, entire_fits, piece_in_range}
 use Rattle.line_progress.proofs.Hearing.{Hears}
-use Rattle.line_progress.proofs.Routes.{AreFit, fit_of, IsNow, AreNow, IsUnderWay, Ends, says_first, get_after, carry, Carried, runs_on}
+use Rattle.line_progress.proofs.Routes.{IsNow, AreNow, IsUnderWay, Ends, says_first, get_after, runs_on}
 use Rattle.line_progress.proofs.Routes.{address_is, all_there, last_ready}
 use Rattle.line_progress.proofs.Sending.{IsCut, it_leaves, sends_it, steps_so, takes_next, takes_none}
 
--- # The frames of a datagram go along the route
+-- # The frames of a datagram
 
 -- what is handed up with a frame, where so many more are to come: nothing, and the datagram with the last one
 abbrev pub IsHanded : List ℕ → ℕ → Option Up → Type 0
@@ -56,7 +54,7 @@ IsHanded datagram zero up = (note : ℕ) × (up ≡ Some (record { note = note; 
 IsHanded datagram (suc more) up = up ≡ None
 
 -- the flight at a place is there in a later world
-moved : (ciphers : Ciphers) (w v : World) (place dest origin sent : ℕ) (s t : Stop) (content : Content) (more : ℕ)
+pub moved : (ciphers : Ciphers) (w v : World) (place dest origin sent : ℕ) (s t : Stop) (content : Content) (more : ℕ)
     → ((k : ℕ) (f : Flight) → slice_get w.flights k ≡ Some f → slice_get v.flights k ≡ Some f)
     → IsUnderWay ciphers w place dest origin sent s t content more → IsUnderWay ciphers v place dest origin sent s t content more
 moved ciphers w v place dest origin sent s t content more stays way = record {
@@ -71,47 +69,6 @@ moved ciphers w v place dest origin sent s t content more stays way = record {
   few = way.few;
   enough = way.enough;
 }
-
-module _ (ciphers : Ciphers) (opens : OpensWhatItSeals ciphers) (frames dest origin : ℕ) (here : IsAddress origin) (there : IsAddress dest)
-    (datagram : List ℕ) (contents : ℕ → Content) (fits : (k : ℕ) → k < frames → IsContent (contents k)) (Held : ℕ → List Reassembly → Type 0)
-    (ends : (sent more : ℕ) → sent + (more + 1) ≡ frames → (held : List Reassembly) → Held sent held → (l : StationMemory) (note now : ℕ)
-    → l.reassemblies ≡ held → Ends (contents sent) origin (last_answer more) (Held (sent + 1)) (IsHanded datagram more) l note now)
-    (s t : Stop) (rest : List Stop) (base : ℕ) (fit : AreFit (s ∷ t ∷ rest)) (straight : IsStraight (t ∷ rest))
-    (route : HasRoute frames dest s (t ∷ rest)) where
-  -- the frames fly to the first node after the sender
-  abbrev AllFly : World → Type 0
-  AllFly w = (k : ℕ) → k < frames → IsUnderWay ciphers w (base + k) dest origin k s t (contents k) (length rest)
-
-  one_goes : (sent more : ℕ) (w : World) (flight next : ℕ) (held : List Reassembly) → sent + (more + 1) ≡ frames → flight ≡ (base + sent) + 1
-      → next ≡ length w.flights + 1 → Held sent held → AreNow w dest sent held s (t ∷ rest) → AllFly w → w.events + (1 + length rest) ≤ MAX_EVENTS
-      → Carried ciphers dest sent (last_answer more) (Held (sent + 1)) (IsHanded datagram more) w flight next s t rest
-  one_goes sent more w flight next held all number numbered holds now ways room =
-      carry ciphers opens frames dest origin sent here there (omega (arith, all)) (contents sent) (fits sent (omega (arith, all))) held (last_answer more)
-      (Held (sent + 1)) (IsHanded datagram more) (ends sent more all held holds) rest w (base + sent) flight next s t number numbered fit straight route
-      now (ways sent (omega (arith, all))) room
-
-  -- the frames that are left
-  pub all_go_along : (more sent : ℕ) (w : World) (flight next : ℕ) (held : List Reassembly) → sent + (more + 1) ≡ frames → flight ≡ (base + sent) + 1
-      → next ≡ length w.flights + 1 → Held sent held → AreNow w dest sent held s (t ∷ rest) → AllFly w
-      → w.events + (more + 1) * (1 + length rest) ≤ MAX_EVENTS
-      → IsBrought (all_answers (suc more) rest) (last_of t rest).number datagram (run ciphers w (all_deliveries (suc more) flight next t rest))
-  all_go_along zero sent w flight next held all number numbered holds now ways room =
-      let one = one_goes sent zero w flight next held all number numbered holds now ways (omega (arith, room)) in
-      let said = one.says [] [] [] (record { answers = refl; handed_is = refl }) in
-      record { answers = said.answers; note = one.said.0; up = said.handed_is ∙ (λ i. one_of (handed_by (last_of t rest).number (one.said.1 i)) ++ []) }
-  all_go_along (suc more) sent w flight next held all number numbered holds now ways room =
-      let split : (suc more + 1) * (1 + length rest) ≡ (more + 1) * (1 + length rest) + (1 + length rest) =
-      ap (λ n. n * (1 + length rest)) (omega arith) ∙ suc-mul (more + 1) (1 + length rest) in
-      let one = one_goes sent (suc more) w flight next held all number numbered holds now ways (omega (arith, room, split)) in
-      let longer = one.flights in
-      let counted = one.events in
-      let ahead = all_go_along more (sent + 1) one.world (flight + 1) (next + length rest) one.left (omega (arith, all)) (omega (arith, number))
-      (omega (arith, numbered, longer)) one.good one.now
-      (λ k lt. moved ciphers w one.world (base + k) dest origin k s t (contents k) (length rest) one.stays (ways k lt)) (omega (arith, room, split, counted)) in
-      let brought : List Handed = record { node = (last_of t rest).number; note = ahead.note; octets = datagram } ∷ [] in
-      let said = one.says (all_deliveries (suc more) (flight + 1) (next + length rest) t rest) (all_answers (suc more) rest) brought
-      (record { answers = ahead.answers; handed_is = ahead.up }) in
-      record { answers = said.answers; note = ahead.note; up = said.handed_is ∙ (λ i. one_of (handed_by (last_of t rest).number (one.said i)) ++ brought) }
 
 -- # They fly when they are sent
 
@@ -173,7 +130,7 @@ now_at_first w frames dest held s t there ready link gathers =
       admits = subst (λ c. room_for t.memory.station.marks s.granted.address c ≡ Ok tt) none link.admits;
     }
 
-all_at_first : (w : World) (frames dest : ℕ) (rest : List Stop) (s t : Stop) → AreReady w (t ∷ rest) → HasRoute frames dest s (t ∷ rest)
+pub all_at_first : (w : World) (frames dest : ℕ) (rest : List Stop) (s t : Stop) → AreReady w (t ∷ rest) → HasRoute frames dest s (t ∷ rest)
     → AreNow w dest 0 (last_of t rest).memory.station.reassemblies s (t ∷ rest)
 all_at_first w frames dest [] s t ready route =
     (now_at_first w frames dest t.memory.station.reassemblies s t ready.0 ready.1 route.0 (λ _. refl), tt)
@@ -428,48 +385,35 @@ module _ (s z : Stop) (datagram : List ℕ) (some : 0 < length datagram) (few : 
       by_size true small = in_one small
       by_size false big = in_parts big (gathers (let long = leb-false _ _ big in omega (arith, long)))
 
--- # Frames that fly go along the route
+-- # Its frames are under way
 
-module _ (ciphers : Ciphers) (opens : OpensWhatItSeals ciphers) (v : World) (s t : Stop) (rest : List Stop) (datagram : List ℕ) (base note : ℕ)
-    (cut : InFrames s (last_of t rest) datagram) (first : IsReady s) (ready : AreReady v (t ∷ rest)) (straight : IsStraight (t ∷ rest))
-    (route : HasRoute (pieces_of (length datagram)) (last_of t rest).granted.address s (t ∷ rest)) (short : length rest ≤ 13)
-    (fly : (k : ℕ) (unit : MeshUnit) → slice_get cut.us k ≡ Some unit
+-- they are under way to the first node
+pub start_so : (ciphers : Ciphers) (v : World) (s t : Stop) (rest : List Stop) (datagram : List ℕ) (base note : ℕ)
+    (cut : InFrames s (last_of t rest) datagram) → length rest ≤ 13
+    → ((k : ℕ) (unit : MeshUnit) → slice_get cut.us k ≡ Some unit
     → slice_get v.flights (base + k)
     ≡ Some (flight_for ciphers s.number s.granted s.key t.granted.address note (s.memory.station.counter.next + k) unit))
-    (next : ℕ) (numbered : next ≡ length v.flights + 1)
-    (room : v.events + pieces_of (length datagram) * (1 + length rest) ≤ MAX_EVENTS) where
-  abbrev far : ℕ
-  far = (last_of t rest).granted.address
+    → (k : ℕ) → k < pieces_of (length datagram)
+    → IsUnderWay ciphers v (base + k) (last_of t rest).granted.address s.granted.address k s t (cut.contents k) (length rest)
+start_so ciphers v s t rest datagram base note cut short fly k lt = record {
+  f = flight_for ciphers s.number s.granted s.key t.granted.address note (s.memory.station.counter.next + k)
+      (unit_with (own_mesh s.granted.address (last_of t rest).granted.address) (cut.contents k));
+  mesh = own_mesh s.granted.address (last_of t rest).granted.address;
+  note = note;
+  flown = fly k _ (cut.units_are k lt);
+  unlost = refl;
+  same = refl;
+  to = refl;
+  origin_is = refl;
+  few = omega arith;
+  enough = omega (arith, short);
+}
 
-  abbrev count : ℕ
-  count = pieces_of (length datagram)
+-- # It is sent
 
-  pub fly_on : IsBrought (all_answers count rest) (last_of t rest).number datagram (run ciphers v (all_deliveries count (base + 1) next t rest))
-  fly_on =
-      let last = last_ready v t rest ready in
-      let same : suc cut.more ≡ count = sym cut.some_frames in
-      subst (λ n. IsBrought (all_answers n rest) (last_of t rest).number datagram (run ciphers v (all_deliveries n (base + 1) next t rest))) same
-      (all_go_along ciphers opens count far s.granted.address first.address last.1.address datagram cut.contents cut.fits cut.Held cut.ends s t rest
-      base (first, fit_of v (t ∷ rest) ready) straight route cut.more 0 v (base + 1) next (last_of t rest).memory.station.reassemblies
-      (omega (arith, same)) (omega arith)
-      numbered cut.starts (all_at_first v count far rest s t ready route)
-      (λ k lt. record {
-        f = flight_for ciphers s.number s.granted s.key t.granted.address note (s.memory.station.counter.next + k)
-            (unit_with (own_mesh s.granted.address far) (cut.contents k));
-        mesh = own_mesh s.granted.address far;
-        note = note;
-        flown = fly k _ (cut.units_are k lt);
-        unlost = refl;
-        same = refl;
-        to = refl;
-        origin_is = refl;
-        few = omega arith;
-        enough = omega (arith, short);
-      })
-      (let budget : count * (1 + length rest) ≡ (cut.more + 1) * (1 + length rest) = ap (λ n. n * (1 + length rest)) (cut.some_frames ∙ omega arith) in
-      omega (arith, room, budget)))
-
--- # The law
+module _ (w : World) (s t : Stop) (rest : List Stop) (datagram : List ℕ) (may : MayCarry w s t rest datagram) where
+  pub cut_of : InFrames s (last_of t rest) datagram
+  cut_of = in_frames s (last_of t rest) datagram may.some may.few may.gathers
 
 module _ (ciphers : Ciphers) (opens : OpensWhatItSeals ciphers) (w : World) (s t : Stop) (rest : List Stop) (datagram : List ℕ)
     (may : MayCarry w s t rest datagram) where
@@ -479,14 +423,17 @@ module _ (ciphers : Ciphers) (opens : OpensWhatItSeals ciphers) (w : World) (s t
   abbrev all_frames : ℕ
   all_frames = pieces_of (length datagram)
 
-  abbrev goal : Type 0
-  goal =
-      IsBrought (answers.Sent ∷ all_answers all_frames rest) last.number datagram
-      (run ciphers w (events.Send s.number last.number datagram
-      ∷ all_deliveries all_frames (length w.flights + 1) ((length w.flights + 1) + all_frames) t rest))
+  abbrev cut : InFrames s last datagram
+  cut = cut_of w s t rest datagram may
 
-  arrives : goal
-  arrives =
+  -- It is sent, its frames fly to the first node, and then other events come.
+  pub sent_so : (more : List Event) (expected : List Answer)
+      → ((v : World) → AreReady v (t ∷ rest)
+      → ((k : ℕ) → k < all_frames
+      → IsUnderWay ciphers v (length w.flights + k) last.granted.address s.granted.address k s t (cut.contents k) (length rest))
+      → length v.flights ≡ length w.flights + all_frames → v.events ≡ w.events + 1 → IsBrought expected last.number datagram (run ciphers v more))
+      → IsBrought (answers.Sent ∷ expected) last.number datagram (run ciphers w (events.Send s.number last.number datagram ∷ more))
+  sent_so more expected goes =
       let some = may.some in
       let few = may.few in
       let short = may.short in
@@ -494,7 +441,6 @@ module _ (ciphers : Ciphers) (opens : OpensWhatItSeals ciphers) (w : World) (s t
       let ready : AreReady w (s ∷ t ∷ rest) = may.ready in
       let straight : IsStraight (s ∷ t ∷ rest) = may.straight in
       let route : HasRoute all_frames last.granted.address s (t ∷ rest) = may.route in
-      let cut : InFrames s last datagram = in_frames s last datagram some few may.gathers in
       let target = last_ready w t rest ready.2 in
       let first : IsReady s = ready.1 in
       let link : HasLink all_frames last.granted.address s t = route.0 in
@@ -513,19 +459,17 @@ module _ (ciphers : Ciphers) (opens : OpensWhatItSeals ciphers) (w : World) (s t
       ap length out.flights ∙ length-append w.flights new
       ∙ ap (λ n. length w.flights + n) (count_of ciphers s.number s.granted s.key t.granted.address (w.sends + 1) cut.us c ∙ cut.many) in
       let counted = out.events in
-      let more : List Event = all_deliveries all_frames (length w.flights + 1) ((length w.flights + 1) + all_frames) t rest in
-      let ahead : IsBrought (all_answers all_frames rest) last.number datagram (run ciphers r.0 more) =
-      fly_on ciphers opens r.0 s t rest datagram (length w.flights) (w.sends + 1) cut first
-      (all_there w r.0 s.number out.node (t ∷ rest) out.nodes straight.0 ready.2) straight.1 route short
-      (λ k unit e. ap (λ fs. slice_get fs (length w.flights + k)) out.flights ∙ get_after w.flights new (length w.flights + k) k refl
-      ∙ flies_at ciphers s.number s.granted s.key t.granted.address (w.sends + 1) cut.us c k unit e)
-      ((length w.flights + 1) + all_frames) (omega (arith, longer)) (omega (arith, room, counted)) in
-      let said = says_first (record { number = w.events + 1; event = event; trace = r.1; after = r.0 }) answers.Sent None (all_answers all_frames rest)
+      let fly : (k : ℕ) (unit : MeshUnit) → slice_get cut.us k ≡ Some unit
+      → slice_get r.0.flights (length w.flights + k)
+      ≡ Some (flight_for ciphers s.number s.granted s.key t.granted.address (w.sends + 1) (c + k) unit) =
+      λ k unit e. ap (λ fs. slice_get fs (length w.flights + k)) out.flights ∙ get_after w.flights new (length w.flights + k) k refl
+      ∙ flies_at ciphers s.number s.granted s.key t.granted.address (w.sends + 1) cut.us c k unit e in
+      let ahead : IsBrought expected last.number datagram (run ciphers r.0 more) =
+      goes r.0 (all_there w r.0 s.number out.node (t ∷ rest) out.nodes straight.0 ready.2)
+      (start_so ciphers r.0 s t rest datagram (length w.flights) (w.sends + 1) cut short fly) longer counted in
+      let said = says_first (record { number = w.events + 1; event = event; trace = r.1; after = r.0 }) answers.Sent None expected
       (record { node = last.number; note = ahead.note; octets = datagram } ∷ []) (run ciphers r.0 more) out.answer_is out.up_is
       (record { answers = ahead.answers; handed_is = ahead.up }) in
       let whole = runs_on ciphers w event more r (omega (arith, room)) step in
-      subst (λ es. IsBrought (answers.Sent ∷ all_answers all_frames rest) last.number datagram es) (sym whole)
+      subst (λ es. IsBrought (answers.Sent ∷ expected) last.number datagram es) (sym whole)
       (record { answers = said.answers; note = ahead.note; up = said.handed_is })
-
-pub arrive : DatagramsArrive
-arrive = arrives

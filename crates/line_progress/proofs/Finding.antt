@@ -1,5 +1,5 @@
 -- A datagram without a route arrives: the request goes, the reply comes back, and what waits leaves.
-use Rattle.std.proofs.Common.{◌≡◌, ℕ, zero, suc, ◌+◌, ◌*◌, ◌<◌, ◌≤◌, false, List, [], ◌∷◌, ◌++◌, length, map, Some, None, Ok, refl, sym}
+use Rattle.std.proofs.Common.{◌≡◌, ℕ, zero, suc, ◌+◌, ◌*◌, ◌<◌, ◌≤◌, false, List, [], ◌∷◌, ◌++◌, length, Some, None, Ok, refl, sym}
 use Rattle.std.proofs.Common.{ap, subst, ◌∙◌, arith}
 use Rattle.std.specs.Prelude.{if◌then◌else◌, nat_lt, slice_get}
 use Rattle.std.specs.List.{filter}
@@ -39,11 +39,12 @@ use Rattle.line_progress.specs.Arrival.{all_deliveries, delivery_answers, all_an
 use Rattle.line_progress.specs.Discovery.{TakesRequest, AreReached, Search, AreBack, MayReach}
 use Rattle.line_progress.specs.Discovery.{MayFind, DiscoveriesArrive, asked_of, back_answers, back_deliveries}
 use Rattle.line_progress.specs.Discovery.{cost_back, counter_back, search_of}
-use Rattle.line_progress.proofs.Arriving.{InFrames, fly_on, flies_at, flight_for, flights_for, count_of, in_frames}
+use Rattle.line_progress.proofs.Arriving.{InFrames, start_so, flies_at, flight_for, flights_for, count_of, in_frames}
 use Rattle.line_progress.proofs.Delivering.{Goes}
 use Rattle.line_progress.proofs.Messages.{Holds, IsComing, came, is_target, message_goes, step_is, still, to_me, to_one, unit_is}
 use Rattle.line_progress.proofs.NextCounter.{IsMarked, is_marked, room_above, stays_marked}
 use Rattle.line_progress.proofs.OfferedRoutes.{next_by}
+use Rattle.line_progress.proofs.PieceByPiece.{fly_on}
 use Rattle.line_progress.proofs.Replies.{is_learned, learned_of}
 use Rattle.line_progress.proofs.ReplyRoutes.{HavePassed, Returned, low_back, passed_of, returns}
 use Rattle.line_progress.proofs.RequestRoutes.{Reached, goes_out, out, request_by, sent_to, sought_of, step_out}
@@ -445,8 +446,9 @@ module _ (ciphers : Ciphers) (opens : OpensWhatItSeals ciphers) (w : World) (s t
       let start = starts_at in
       let split : (1 + length rest) * (2 + q.frames) ≡ 2 * (1 + length rest) + q.frames * (1 + length rest) = omega arith in
       let budget : q.frames * (1 + length f.more) ≡ q.frames * (1 + length rest) = ap (λ n. q.frames * (1 + n)) many in
-      let goes_on = fly_on ciphers opens came_now.0 s_now t_now f.more datagram base note cut_now first_now
-      (all_there v came_now.0 s.number goes.node (t_now ∷ f.more) goes.nodes (f.none s.number line.0) f.ready) f.line route (omega (arith, short, many)) flies
+      let goes_on = fly_on ciphers opens came_now.0 s_now t_now f.more datagram base cut_now first_now
+      (all_there v came_now.0 s.number goes.node (t_now ∷ f.more) goes.nodes (f.none s.number line.0) f.ready) f.line route
+      (start_so ciphers came_now.0 s_now t_now f.more datagram base note cut_now (omega (arith, short, many)) flies)
       (leaves + q.frames) (omega (arith, more_flights, start)) (omega (arith, room, split, budget, counted)) in
       let as_first = subst (λ n. IsBrought (all_answers q.frames f.more) z_now.number datagram
       (run ciphers came_now.0 (all_deliveries q.frames n (leaves + q.frames) t_now f.more))) start goes_on in

@@ -8,6 +8,8 @@ pub mod Delivering
 pub mod Sending
 pub mod Routes
 pub mod Arriving
+pub mod AnyOrder
+pub mod PieceByPiece
 pub mod Requests
 pub mod OfferedRoutes
 pub mod Seeking

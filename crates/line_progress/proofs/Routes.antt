@@ -1,10 +1,9 @@
--- One unit of a datagram goes along a route: by induction on the nodes before it.
+-- One unit of a datagram comes over a link of a route: what its node makes of it, at the end of the route and before.
 use Rattle.std.proofs.Common.{◌≡◌, ◌≢◌, ℕ, zero, suc, ◌+◌, ◌-◌, ◌<◌, ◌≤◌, false, List, [], ◌∷◌, ◌++◌, length, Option, Some, None, Ok}
 use Rattle.std.proofs.Common.{refl, sym, ap, subst, ◌∙◌, arith}
 use Rattle.std.specs.Prelude.{if◌then◌else◌, nat_lt, slice_get, slice_set, ◌==◌}
 use Rattle.std.specs.Option.{option_and_then}
 use Rattle.std.proofs.lemmas.Bool.{ne_eqb, le-ltb, lt-ltb, ltb-false}
-use Rattle.std.proofs.lemmas.List.{length-append}
 use Rattle.plc_base.specs.Addresses.{IsAddress}
 use Rattle.plc_base.specs.Grant.{Granted}
 use Rattle.frame_counters.specs.PeerMarks.{room_for, kept_after}
@@ -25,7 +24,6 @@ use Rattle.node_rules.specs.Hearing.{hear, hop_less}
 use Rattle.node_rules.specs.Memory.{StationMemory, Memory, Node, next_hop, node_address, address_of}
 use Rattle.node_rules.specs.MemoryDrafts.{unread, with_station}
 use Rattle.line_events.specs.declared.event.Answer.{Answer}
-use Rattle.line_events.specs.declared.event.Answer.TheVariants as answers
 use Rattle.line_events.specs.declared.event.Event.{Event}
 use Rattle.line_events.specs.declared.event.Event.TheVariants as events
 use Rattle.line_events.specs.declared.event.TheConstants.{MAX_EVENTS}
@@ -33,9 +31,9 @@ use Rattle.line_events.specs.declared.happenings.Handed.{Handed}
 use Rattle.line_rules.specs.Answers.{Up, station_reception}
 use Rattle.line_rules.specs.Further.{comes, line_step}
 use Rattle.line_rules.specs.Runs.{Entry, entries_of, one_of, run, ups}
-use Rattle.line_rules.specs.Steps.{flight_by, handed_by}
+use Rattle.line_rules.specs.Steps.{flight_by}
 use Rattle.line_rules.specs.Worlds.{World, Flight, Trace, node_at, flight_at}
-use Rattle.line_progress.specs.Arrival.{Stop, IsReady, HasLink, HasRoute, AreReady, IsNoneOf, IsStraight, last_of, deliveries, delivery_answers, answers_of}
+use Rattle.line_progress.specs.Arrival.{Stop, IsReady, HasLink, AreReady, IsNoneOf, last_of, answers_of}
 use Rattle.line_progress.proofs.Sealing.{IsSealable}
 use Rattle.line_progress.proofs.Accepting.{got_of}
 use Rattle.line_progress.proofs.NextCounter.{admits_next}
@@ -148,7 +146,7 @@ AreNow w dest sent held s (t ∷ rest) =
     IsNow w dest s.granted.address (s.memory.station.counter.next + sent) sent held t × AreNow w dest sent held t rest
 
 -- a node that did nothing is as before
-still : (w v : World) (dest from next sent : ℕ) (held : List Reassembly) (s : Stop) → node_at v s.number ≡ node_at w s.number
+pub still : (w v : World) (dest from next sent : ℕ) (held : List Reassembly) (s : Stop) → node_at v s.number ≡ node_at w s.number
     → IsNow w dest from next sent held s → IsNow v dest from next sent held s
 still w v dest from next sent held s same now = record {
   node = now.node;
@@ -162,16 +160,6 @@ still w v dest from next sent held s same now = record {
   gathers = now.gathers;
   admits = now.admits;
 }
-
--- so are those that are none of one that did something
-pub all_still : (w v : World) (number : ℕ) (y : Node) (dest sent : ℕ) (held : List Reassembly) (s : Stop) (stops : List Stop)
-    → v.nodes ≡ slice_set w.nodes number y → IsNoneOf number stops → AreNow w dest sent held s stops → AreNow v dest sent held s stops
-all_still w v number y dest sent held s [] same none now = tt
-all_still w v number y dest sent held s (t ∷ rest) same none now = (
-  still w v dest s.granted.address (s.memory.station.counter.next + sent) sent held t
-      (ap (λ nodes. slice_get nodes t.number) same ∙ slice_get-set_other w.nodes number t.number y none.0) now.0,
-  all_still w v number y dest sent held t rest same none.1 now.1,
-)
 
 -- # On the way
 
@@ -214,27 +202,8 @@ pub record Ends (content : Content) (origin : ℕ) (word : Answer) (Left : List 
   pub said : IsSaid (station_reception answer).up
   pub good : Left left
 
--- What a route that a unit went along is then, and what it said.
-pub record Carried (ciphers : Ciphers) (dest sent : ℕ) (word : Answer) (Left : List Reassembly → Type 0) (IsSaid : Option Up → Type 0)
-    (w : World) (flight next : ℕ) (s t : Stop) (rest : List Stop) : Type 0 where
-  pub world : World
-  pub left : List Reassembly
-  pub good : Left left
-  pub up : Option Up
-  pub said : IsSaid up
-  pub now : AreNow world dest (sent + 1) left s (t ∷ rest)
-  pub others : (number : ℕ) → IsNoneOf number (t ∷ rest) → node_at world number ≡ node_at w number
-  pub stays : (place : ℕ) (f : Flight) → slice_get w.flights place ≡ Some f → slice_get world.flights place ≡ Some f
-  pub flights : length world.flights ≡ length w.flights + length rest
-  pub events : world.events ≡ w.events + (1 + length rest)
-  pub says : (more : List Event) (expected : List Answer) (handed : List Handed) → Says expected handed (run ciphers world more)
-      → Says (delivery_answers word rest ++ expected) (one_of (handed_by (last_of t rest).number up) ++ handed)
-      (run ciphers w (deliveries flight next t rest ++ more))
-
 module _ (ciphers : Ciphers) (opens : OpensWhatItSeals ciphers) (frames dest origin sent : ℕ) (here : IsAddress origin) (there : IsAddress dest)
-    (below : sent < frames) (content : Content) (fits : IsContent content) (held : List Reassembly) (word : Answer)
-    (Left : List Reassembly → Type 0) (IsSaid : Option Up → Type 0)
-    (ends : (l : StationMemory) (note now : ℕ) → l.reassemblies ≡ held → Ends content origin word Left IsSaid l note now) where
+    (below : sent < frames) (content : Content) (fits : IsContent content) (held : List Reassembly) where
   sealable : (s t : Stop) (mesh : Mesh) (note : ℕ) → IsReady s → IsReady t → HasLink frames dest s t → mesh.hops ≤ 14 → mesh.origin ≡ origin
       → mesh.to ≡ dest → IsSealable (sealed_for s t sent (unit_with mesh content) note)
   sealable s t mesh note ready next link few from to =
@@ -256,27 +225,27 @@ module _ (ciphers : Ciphers) (opens : OpensWhatItSeals ciphers) (frames dest ori
   module _ (w : World) (place : ℕ) (s t : Stop) (more : ℕ) (first : IsReady s) (ready : IsReady t) (link : HasLink frames dest s t)
       (now : IsNow w dest s.granted.address (s.memory.station.counter.next + sent) sent held t)
       (way : IsUnderWay ciphers w place dest origin sent s t content more) where
-    abbrev u : SealedUnit
+    abbrev pub u : SealedUnit
     u = sealed_for s t sent (unit_with way.mesh content) way.note
 
-    u_fits : IsSealable u
+    pub u_fits : IsSealable u
     u_fits = sealable s t way.mesh way.note first ready link way.few way.origin_is way.to
 
     -- what comes of the flight at the node
-    abbrev came : World × Trace
+    abbrev pub came : World × Trace
     came = comes ciphers w t.number now.node (spelled ciphers (Sealed u)).octets t.cost
 
-    step_is : (flight : ℕ) → flight ≡ place + 1 → line_step ciphers w (events.Deliver flight t.number t.cost) ≡ Ok came
+    pub step_is : (flight : ℕ) → flight ≡ place + 1 → line_step ciphers w (events.Deliver flight t.number t.cost) ≡ Ok came
     step_is flight number =
         delivered ciphers w flight t.number t.cost now.node way.f now.there (at_place w flight place number ∙ way.flown) way.unlost
         ∙ ap (λ octets. Ok (comes ciphers w t.number now.node octets t.cost)) way.same
 
-    abbrev note_now : ℕ
+    abbrev pub note_now : ℕ
     note_now =
         note_is ciphers opens w t.number t.cost now.node now.memory t.granted now.runs now.spared now.ring u u_fits way.mesh content refl
         refl (no_target t ready) link.apart link.opens now.admits
 
-    abbrev marked_now : StationMemory
+    abbrev pub marked_now : StationMemory
     marked_now =
         marked ciphers opens w t.number t.cost now.node now.memory t.granted now.runs now.spared now.ring u u_fits way.mesh content refl
         refl (no_target t ready) link.apart link.opens now.admits
@@ -290,7 +259,7 @@ module _ (ciphers : Ciphers) (opens : OpensWhatItSeals ciphers) (frames dest ori
     unfolding marking
     ring_now = now.ring
 
-    gathers_now : marked_now.reassemblies ≡ now.memory.station.reassemblies
+    pub gathers_now : marked_now.reassemblies ≡ now.memory.station.reassemblies
     unfolding marking
     gathers_now = refl
 
@@ -308,11 +277,13 @@ module _ (ciphers : Ciphers) (opens : OpensWhatItSeals ciphers) (frames dest ori
         ap (λ ns. slice_get ns t.number) nodes ∙ slice_get-set w.nodes t.number y (place_within w.nodes t.number now.node now.there)
 
     -- at the end of the route the unit is taken up
-    module _ (at : t.granted.address ≡ dest) where
-      abbrev end : Ends content origin word Left IsSaid marked_now note_now w.clock
+    module _ (word : Answer) (Left : List Reassembly → Type 0) (IsSaid : Option Up → Type 0)
+        (ends : (l : StationMemory) (note now : ℕ) → l.reassemblies ≡ held → Ends content origin word Left IsSaid l note now)
+        (at : t.granted.address ≡ dest) where
+      abbrev pub end : Ends content origin word Left IsSaid marked_now note_now w.clock
       end = ends marked_now note_now w.clock (gathers_now ∙ now.gathers at)
 
-      abbrev gathered_now : StationMemory
+      abbrev pub gathered_now : StationMemory
       gathered_now = record marked_now { reassemblies = end.left }
 
       hears_last : Hears (hear marked_now (got_of u) t.cost note_now w.clock) end.answer [] gathered_now
@@ -321,12 +292,12 @@ module _ (ciphers : Ciphers) (opens : OpensWhatItSeals ciphers) (frames dest ori
           (sym (is_taken_up marked_now t.granted ring_now u.from u.key way.mesh content (got_of u).payload reads_now t.cost note_now w.clock
           (way.to ∙ sym at) ∙ ap (λ o. taken_up marked_now content o note_now w.clock) way.origin_is)) end.hears
 
-      comes_last : Goes ciphers w t.number (station_reception end.answer) [] (with_station gathered_now now.memory) came
+      pub comes_last : Goes ciphers w t.number (station_reception end.answer) [] (with_station gathered_now now.memory) came
       comes_last =
           frame_comes ciphers opens w t.number t.cost now.node now.memory t.granted now.runs now.spared now.ring u u_fits way.mesh content refl
           refl (no_target t ready) link.apart link.opens now.admits end.answer [] gathered_now hears_last end.read
 
-      last_now : IsNow came.0 dest s.granted.address (s.memory.station.counter.next + (sent + 1)) (sent + 1) end.left t
+      pub last_now : IsNow came.0 dest s.granted.address (s.memory.station.counter.next + (sent + 1)) (sent + 1) end.left t
       unfolding marking
       last_now = record {
         node = comes_last.node;
@@ -357,10 +328,10 @@ module _ (ciphers : Ciphers) (opens : OpensWhatItSeals ciphers) (frames dest ori
           le-ltb (counters_left now.memory.station) 1 (omega (arith, below, left, counter_is))
 
       -- what it seals
-      abbrev onward : SealedUnit
+      abbrev pub onward : SealedUnit
       onward = record (sealed_for t next sent (unit_with (hop_less way.mesh) content) note_now) { counter = now.memory.station.counter.next }
 
-      comes_on : Goes ciphers w t.number (station_reception heard.Relayed) (Sealed onward ∷ []) (with_station (sent_one marked_now) now.memory) came
+      pub comes_on : Goes ciphers w t.number (station_reception heard.Relayed) (Sealed onward ∷ []) (with_station (sent_one marked_now) now.memory) came
       unfolding marking
       comes_on =
           frame_comes ciphers opens w t.number t.cost now.node now.memory t.granted now.runs now.spared now.ring u u_fits way.mesh content refl
@@ -368,7 +339,7 @@ module _ (ciphers : Ciphers) (opens : OpensWhatItSeals ciphers) (frames dest ori
           (goes_on marked_now t.granted ring_now u.from u.key way.mesh content (got_of u).payload reads_now t.cost note_now w.clock
           (λ e. onto.on (sym e ∙ way.to)) next.granted.address route_now (let enough = way.enough in omega arith) left_now t.key ready.key) refl
 
-      on_now : (any : List Reassembly) → IsNow came.0 dest s.granted.address (s.memory.station.counter.next + (sent + 1)) (sent + 1) any t
+      pub on_now : (any : List Reassembly) → IsNow came.0 dest s.granted.address (s.memory.station.counter.next + (sent + 1)) (sent + 1) any t
       unfolding marking
       on_now any = record {
         node = comes_on.node;
@@ -384,7 +355,7 @@ module _ (ciphers : Ciphers) (opens : OpensWhatItSeals ciphers) (frames dest ori
       }
 
       -- the flight that it adds is under way to the next node
-      on_its_way : (rest : ℕ) → rest < more → IsUnderWay ciphers came.0 (length w.flights) dest origin sent t next content rest
+      pub on_its_way : (rest : ℕ) → rest < more → IsUnderWay ciphers came.0 (length w.flights) dest origin sent t next content rest
       on_its_way rest fewer = record {
         f = flight_by t.number (spelled ciphers (Sealed onward));
         mesh = hop_less way.mesh;
@@ -396,66 +367,4 @@ module _ (ciphers : Ciphers) (opens : OpensWhatItSeals ciphers) (frames dest ori
         origin_is = way.origin_is;
         few = let few = way.few in omega arith;
         enough = let enough = way.enough in omega (arith, enough, fewer);
-      }
-
-  pub carry : (rest : List Stop) (w : World) (place flight next : ℕ) (s t : Stop) → flight ≡ place + 1 → next ≡ length w.flights + 1
-      → AreFit (s ∷ t ∷ rest) → IsStraight (t ∷ rest) → HasRoute frames dest s (t ∷ rest) → AreNow w dest sent held s (t ∷ rest)
-      → IsUnderWay ciphers w place dest origin sent s t content (length rest) → w.events + (1 + length rest) ≤ MAX_EVENTS
-      → Carried ciphers dest sent word Left IsSaid w flight next s t rest
-  carry [] w place flight next s t number after fit straight route now way room =
-      let r : World × Trace = came w place s t 0 fit.0 fit.1.0 route.0 now.0 way in
-      let goes = comes_last w place s t 0 fit.0 fit.1.0 route.0 now.0 way route.1 in
-      let over = end w place s t 0 fit.0 fit.1.0 route.0 now.0 way route.1 in
-      let event : Event = events.Deliver flight t.number t.cost in
-      record {
-        world = r.0;
-        left = over.left;
-        good = over.good;
-        up = (station_reception over.answer).up;
-        said = over.said;
-        now = (last_now w place s t 0 fit.0 fit.1.0 route.0 now.0 way route.1, tt);
-        others = λ number none. ap (λ ns. slice_get ns number) goes.nodes
-            ∙ slice_get-set_other w.nodes t.number number goes.node (λ e. none.0 (sym e));
-        stays = λ k f e. ap (λ fs. slice_get fs k) goes.flights ∙ get_before w.flights [] k f e;
-        flights = ap length goes.flights ∙ length-append w.flights [];
-        events = goes.events;
-        says = λ more expected handed h. subst (λ es. Says (word ∷ expected) (one_of (handed_by t.number (station_reception over.answer).up) ++ handed) es)
-            (sym (runs_on ciphers w event more r (omega (arith, room)) (step_is w place s t 0 fit.0 fit.1.0 route.0 now.0 way flight number)))
-            (says_first (record { number = w.events + 1; event = event; trace = r.1; after = r.0 }) word
-            (handed_by t.number (station_reception over.answer).up) expected handed (run ciphers r.0 more) (goes.answer_is ∙ over.word_is) goes.up_is h);
-      }
-  carry (z ∷ rest) w place flight next s t number after fit straight route now way room =
-      let more : ℕ = length (z ∷ rest) in
-      let some : 1 ≤ more = omega arith in
-      let r : World × Trace = came w place s t more fit.0 fit.1.0 route.0 now.0 way in
-      let goes = comes_on w place s t more fit.0 fit.1.0 route.0 now.0 way z route.1.0 some in
-      let event : Event = events.Deliver flight t.number t.cost in
-      let longer : length r.0.flights ≡ length w.flights + 1 = ap length goes.flights ∙ length-append w.flights _ in
-      let counted : r.0.events ≡ w.events + 1 = goes.events in
-      let ahead = carry rest r.0 (length w.flights) next (next + 1) t z after (omega (arith, after, longer)) fit.1 straight.1 route.1
-      (all_still w r.0 t.number goes.node dest sent held t (z ∷ rest) goes.nodes straight.0 now.1)
-      (on_its_way w place s t more fit.0 fit.1.0 route.0 now.0 way z route.1.0 some (length rest) (omega arith)) (omega (arith, room, counted)) in
-      record {
-        world = ahead.world;
-        left = ahead.left;
-        good = ahead.good;
-        up = ahead.up;
-        said = ahead.said;
-        now = (
-          still r.0 ahead.world dest s.granted.address (s.memory.station.counter.next + (sent + 1)) (sent + 1) ahead.left t
-              (ahead.others t.number straight.0) (on_now w place s t more fit.0 fit.1.0 route.0 now.0 way z route.1.0 some ahead.left),
-          ahead.now,
-        );
-        others = λ number none. ahead.others number none.1 ∙ ap (λ ns. slice_get ns number) goes.nodes
-            ∙ slice_get-set_other w.nodes t.number number goes.node (λ e. none.0 (sym e));
-        stays = λ k f e. ahead.stays k f (ap (λ fs. slice_get fs k) goes.flights ∙ get_before w.flights _ k f e);
-        flights = let all = ahead.flights in omega (arith, all, longer);
-        events = let all = ahead.events in omega (arith, all, counted);
-        says = λ further expected handed h. subst (λ es. Says (answers.Relayed ∷ (delivery_answers word rest ++ expected))
-            (one_of (handed_by (last_of z rest).number ahead.up) ++ handed) es)
-            (sym (runs_on ciphers w event (deliveries next (next + 1) z rest ++ further) r (omega (arith, room))
-            (step_is w place s t more fit.0 fit.1.0 route.0 now.0 way flight number)))
-            (says_first (record { number = w.events + 1; event = event; trace = r.1; after = r.0 }) answers.Relayed None
-            (delivery_answers word rest ++ expected) (one_of (handed_by (last_of z rest).number ahead.up) ++ handed)
-            (run ciphers r.0 (deliveries next (next + 1) z rest ++ further)) goes.answer_is goes.up_is (ahead.says further expected handed h));
       }

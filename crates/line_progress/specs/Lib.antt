@@ -1,4 +1,5 @@
 pub mod Arrival
+pub mod AnyOrder
 pub mod BodyFates
 pub mod Lists
 pub mod PieceFates

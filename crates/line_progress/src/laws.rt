@@ -1,4 +1,5 @@
 //! Laws of progress: each carried by a function that does nothing.
+ghost use Rattle.line_progress.specs.AnyOrder.{DatagramsArriveInAnyOrder};
 ghost use Rattle.line_progress.specs.Arrival.{DatagramsArrive};
 ghost use Rattle.line_progress.specs.BodyFates.{BodiesHaveFates};
 ghost use Rattle.line_progress.specs.BroadcastFates.{BroadcastsGoFurther};
@@ -15,6 +16,12 @@ ghost use Rattle.line_progress.specs.Ups.{DatagramsCame, StationsHandUp};
 /// links before the next one, is handed up at the last node with the same octets, after one delivery of each frame for each link.
 pub fn datagrams_arrive()
     ensures { DatagramsArrive }
+{}
+
+/// So is one whose frames come over the links in any other order: each frame once over each link, and over each link in the order in which they were
+/// sent, with no tick between.
+pub fn datagrams_arrive_in_any_order()
+    ensures { DatagramsArriveInAnyOrder }
 {}
 
 /// Where the nodes of a way take the request of a node that has no route, it is passed on by each of them and answered by the node that is sought,

@@ -4,9 +4,10 @@
 mod laws;
 
 pub use laws::{
-    bodies_have_fates, broadcasts_go_further, datagrams_arrive, datagrams_came,
-    deliveries_have_fates, discoveries_arrive, events_keep_bodies, events_keep_flights,
-    events_keep_held, events_keep_pieces, events_leave_others, hearing_keeps_pieces, pieces_arrive,
-    pieces_come_in, pieces_have_fates, requests_arrive, send_events_have_fates, sends_fly,
-    sends_have_fates, stations_hand_up, ticks_have_fates, time_comes_to_all, units_have_fates,
+    bodies_have_fates, broadcasts_go_further, datagrams_arrive, datagrams_arrive_in_any_order,
+    datagrams_came, deliveries_have_fates, discoveries_arrive, events_keep_bodies,
+    events_keep_flights, events_keep_held, events_keep_pieces, events_leave_others,
+    hearing_keeps_pieces, pieces_arrive, pieces_come_in, pieces_have_fates, requests_arrive,
+    send_events_have_fates, sends_fly, sends_have_fates, stations_hand_up, ticks_have_fates,
+    time_comes_to_all, units_have_fates,
 };

@@ -1,38 +1,17 @@
 -- What was written.
-use Rattle.std.proofs.Common.{◌≡◌, ◌≤◌, inl, inr, ℕ, Bool, true, false, not, nat_lt, List, [], ◌++◌, length, Result, refl, sym, ◌∙◌, ap, subst, arith}
+use Rattle.std.proofs.Common.{◌≡◌, ◌≤◌, ℕ, Bool, true, false, not, nat_lt, List, length, refl, sym, ap, subst, arith}
 use Rattle.std.proofs.lemmas.Bool.Decides.{nat_tests}
-use Rattle.std.proofs.lemmas.List.{append-nil}
 use Rattle.std.specs.Prelude.{All, AllPairs}
-use Rattle.plc_base.specs.Streams.{SinkState, SinkRose, HasWritten}
+use Rattle.plc_base.specs.Streams.{SinkState}
 use Rattle.line_simulation.specs.Turning.{Ran}
 use Rattle.line_sim.specs.declared.command.Mode.{Mode}
-use Rattle.line_sim.specs.declared.status.Status.{Status}
-use Rattle.line_sim.specs.declared.status.Status.TheVariants as status
+use Rattle.program_ends.specs.declared.status.Status.{Status}
+use Rattle.program_ends.specs.Texts.{WritesText}
 use Rattle.line_sim.specs.Arrivals.{IsCausal, InOrder, arrivals}
 use Rattle.line_sim.specs.Recorders.{Recorded}
 use Rattle.line_sim.specs.Scripts.{LeadsTo, InjectsNothing}
 use Rattle.line_sim.specs.Times.{IsUpTo, times}
-use Rattle.line_sim.specs.Tool.{IsRun, IsTextOf, status_of, Writes, WritesRun}
-
--- all of a text was written
-pub wrote_all : {T E : Type 0} {s0 s1 : SinkState} {r : Result T E} {text : List ℕ} (done : Status) (h : HasWritten s0 s1 r text) → h.rest ≡ []
-    → Writes text done s0 s1 done
-wrote_all {T} {E} {s0} {s1} {r} {text} done h none = record {
-  part = h.front;
-  prefix = record { rest = h.rest; whole = h.whole };
-  wrote = h.appends;
-  ends = inl (refl, sym (h.whole ∙ ap (λ (l : List ℕ). h.front ++ l) none ∙ append-nil h.front));
-}
-
--- the sink failed
-pub wrote_part : {T E : Type 0} {s0 s1 : SinkState} {r : Result T E} {text : List ℕ} (done : Status) (h : HasWritten s0 s1 r text) → SinkRose s0 s1
-    → Writes text done s0 s1 status.WriteFault
-wrote_part {T} {E} {s0} {s1} {r} {text} done h rose = record {
-  part = h.front;
-  prefix = record { rest = h.rest; whole = h.whole };
-  wrote = h.appends;
-  ends = inr (refl, rose);
-}
+use Rattle.line_sim.specs.Tool.{IsRun, IsTextOf, status_of, WritesRun}
 
 not_true : (test : Bool) → not test ≡ true → test ≡ false
 not_true true is = cc
@@ -57,7 +36,7 @@ is_run injects recorder leads fits silent causal in_order clock = record {
 -- what was asked for of a run was written
 pub wrote_run : {mode : Mode} {injects : Bool} {ran : Ran Recorded} {s0 s1 : SinkState} {result : Status} (recorder : Recorded) (whole : Bool)
     (done : Status) (text : List ℕ) → IsRun (not injects) recorder.script recorder.world → ran.whole ≡ whole → ran.simulated.recorder ≡ recorder
-    → IsTextOf mode recorder.script text → done ≡ status_of whole recorder.world.forged → Writes text done s0 s1 result
+    → IsTextOf mode recorder.script text → done ≡ status_of whole recorder.world.forged → WritesText text done s0 s1 result
     → WritesRun mode injects ran s0 s1 result
 wrote_run {mode} {injects} {ran} {s0} {s1} {result} recorder whole done text run ended left text_is done_is written = record {
   script = recorder.script;
@@ -71,5 +50,5 @@ wrote_run {mode} {injects} {ran} {s0} {s1} {result} recorder whole done text run
   };
   text = text;
   text_is = text_is;
-  written = subst (λ (d : Status). Writes text d s0 s1 result) done_is written;
+  written = subst (λ (d : Status). WritesText text d s0 s1 result) done_is written;
 }

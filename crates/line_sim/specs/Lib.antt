@@ -4,6 +4,5 @@ pub mod Recorders
 pub mod Recording
 pub mod Scripts
 pub mod Times
-pub mod Statuses
 pub mod Simulated
 pub mod Tool

@@ -1,10 +1,9 @@
 -- What the program's call says.
-use Rattle.std.specs.Prelude.{◌≡◌, ◌≤◌, ◌⊎◌, ℕ, Bool, true, not, List, [], ◌∷◌, length, String, codes, string_bytes, bytes_eq, IsUtf8}
+use Rattle.std.specs.Prelude.{◌≡◌, ◌≤◌, ℕ, Bool, true, not, List, [], ◌∷◌, length, String, codes, string_bytes, bytes_eq, IsUtf8}
 use Rattle.std.specs.Prelude.{if◌then◌else◌, nat_lt, Option, Some, None, All, AllPairs}
 use Rattle.std.specs.Option.{option_and_then}
 use Rattle.std.specs.declared.alloc.Global.{Global}
-use Rattle.std.specs.Io.KnownBytes.{Appends}
-use Rattle.plc_base.specs.Streams.{SourceState, SinkState, SourceRose, SinkRose, IsPrefixOf}
+use Rattle.plc_base.specs.Streams.{SourceState, SinkState, SourceRose}
 use Rattle.line_plan.specs.declared.plan.Plan.{Plan}
 use Rattle.plan_options.specs.Options.{are_options}
 use Rattle.plan_options.specs.Descriptions.{IsDescribed, IsBad}
@@ -22,8 +21,9 @@ use Rattle.line_sim.specs.Times.{IsUpTo, times}
 use Rattle.line_sim.specs.declared.command.Command.{Command}
 use Rattle.line_sim.specs.declared.command.Mode.{Mode}
 use Rattle.line_sim.specs.declared.command.Mode.TheVariants as modes
-use Rattle.line_sim.specs.declared.status.Status.{Status}
-use Rattle.line_sim.specs.declared.status.Status.TheVariants as status
+use Rattle.program_ends.specs.declared.status.Status.{Status}
+use Rattle.program_ends.specs.declared.status.Status.TheVariants as status
+use Rattle.program_ends.specs.Texts.{WritesText}
 
 -- # The script of a run
 
@@ -71,13 +71,6 @@ apart_text = codes "bad description: in 1000 draws of the place no path led to e
 
 -- # What is written
 
--- A text was written whole, or the sink failed and a prefix of it was written.
-pub record Writes (text : List ℕ) (done : Status) (sink0 sink1 : SinkState) (result : Status) : Type 0 where
-  pub part : List ℕ
-  pub prefix : IsPrefixOf part text
-  pub wrote : Appends sink0.taken sink1.taken part
-  pub ends : ((result ≡ done) × (part ≡ text)) ⊎ ((result ≡ status.WriteFault) × SinkRose sink0 sink1)
-
 -- What is written of a run with a script: the script, or counts of the run, of which nothing is said but that they are UTF-8.
 abbrev pub IsTextOf : Mode → (script text : List ℕ) → Type 0
 IsTextOf modes.Run script text = text ≡ script
@@ -92,7 +85,7 @@ pub record WritesRun (mode : Mode) (injects : Bool) (ran : Ran Recorded) (sink0 
   pub left : IsLeftBy ran script world whole
   pub text : List ℕ
   pub text_is : IsTextOf mode script text
-  pub written : Writes text (status_of whole world.forged) sink0 sink1 result
+  pub written : WritesText text (status_of whole world.forged) sink0 sink1 result
 
 -- What became of a run: what was asked for was written of it, or nothing was, since memory ran out in the run or after it.
 pub data EndsRun (mode : Mode) (injects : Bool) (ran : Ran Recorded) (sink0 sink1 : SinkState) (result : Status) : Type 0 where
@@ -108,7 +101,7 @@ pub record IsOnlyFirst (plan : Plan) (first : Simulated Recorded) : Type 0 where
 pub data Ends (mode : Mode) (injects : Bool) (plan : Plan) (sink0 sink1 : SinkState) (result : Status) : Type 0 where
   Simulates : (first : Simulated Recorded) → IsOnlyFirst plan first
       → EndsRun mode injects (whole_run (world_recorder injects) first) sink0 sink1 result → Ends mode injects plan sink0 sink1 result
-  Apart : IsApart plan.seed plan.place plan.place.kind → Writes apart_text status.BadDescription sink0 sink1 result
+  Apart : IsApart plan.seed plan.place plan.place.kind → WritesText apart_text status.BadScript sink0 sink1 result
       → Ends mode injects plan sink0 sink1 result
   OutOfMemory : result ≡ status.Memory → sink1 ≡ sink0 → Ends mode injects plan sink0 sink1 result
 
@@ -122,7 +115,7 @@ pub data Runs (mode : Mode) (options : List (String Global)) (source0 source1 : 
   Described : (plan : Plan) → IsDescribed source0 source1 options plan → EndsPlan mode plan sink0 sink1 result
       → Runs mode options source0 source1 sink0 sink1 result
   -- the description or an option is bad, and the line that says what is wrong was written, with the status of a bad description
-  Bad : (line : List ℕ) → IsBad source0 source1 options line → Writes line status.BadDescription sink0 sink1 result
+  Bad : (line : List ℕ) → IsBad source0 source1 options line → WritesText line status.BadScript sink0 sink1 result
       → Runs mode options source0 source1 sink0 sink1 result
   -- the source failed, and nothing was written
   NotRead : result ≡ status.ReadFault → SourceRose source0 source1 → sink1 ≡ sink0 → Runs mode options source0 source1 sink0 sink1 result
@@ -131,7 +124,7 @@ pub data Runs (mode : Mode) (options : List (String Global)) (source0 source1 : 
 
 -- The usage line was written, and nothing was read.
 pub record WritesUsage (source0 source1 : SourceState) (sink0 sink1 : SinkState) (result : Status) : Type 0 where
-  pub written : Writes usage_text status.Usage sink0 sink1 result
+  pub written : WritesText usage_text status.Usage sink0 sink1 result
   pub unread : source1 ≡ source0
 
 -- What became of a call, by what its words ask for: a script or counts, or the usage line where they ask for nothing.

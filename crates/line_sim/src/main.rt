@@ -7,29 +7,13 @@
 mod command;
 mod order;
 mod recorder;
-mod status;
 mod tool;
 
 use plc_base::{StdSink, StdSource};
-use status::Status;
+use program_ends::{Status, words};
 use std::alloc::AllocError;
 use std::process::ExitCode;
-use std::{env, io};
 use tool::run_tool;
-
-/// The words after the program's name. A word that is no text is of no form, so it stands for none at all.
-fn words(rt: &HostRuntime) -> Result<Vec<String>, AllocError> {
-    let mut words = Vec::new(rt.alloc());
-    let args = match env::args(rt) {
-        Ok(args) => args,
-        Err(fault) if fault.kind() == io::ErrorKind::OutOfMemory => return Err(AllocError),
-        Err(_) => return Ok(words),
-    };
-    for word in args.skip(1) {
-        words.push(word)?;
-    }
-    Ok(words)
-}
 
 fn main(rt: HostRuntime) -> ExitCode {
     let mut source = StdSource::new(rt.stdin());

@@ -4,31 +4,21 @@ ghost use Rattle.line_simulation.specs.Simulations.{state_of};
 ghost use Rattle.line_simulation.specs.Turning.{Ran, whole_run};
 ghost use Rattle.line_sim.specs.Recorders.{Recorded};
 ghost use Rattle.line_sim.specs.Recording.{world_recorder};
-ghost use Rattle.line_sim.specs.Tool.{status_of, Writes, EndsRun, Ends, EndsPlan, Runs, Answers, asked_by};
+ghost use Rattle.line_sim.specs.Tool.{status_of, EndsRun, Ends, EndsPlan, Runs, Answers, asked_by};
 
 use crate::command::{Mode, command_of};
 use crate::recorder::Recorder;
-use crate::status::Status;
 use line_plan::Plan;
 use line_simulation::{Made, Simulation, has_attackers};
 use plan_options::{NoPlan, read_plan};
-use plc_base::{Sink, Source, write_all};
+use plc_base::{Sink, Source};
+use program_ends::{Status, write_whole};
 use std::alloc::{AllocError, Global};
 
 const USAGE: &[u8; 61] = b"usage: line_sim run | measure [--seed N] [--set KEY=VALUE]..\n";
 
 const APART: &[u8; 84] =
     b"bad description: in 1000 draws of the place no path led to every meter; raise reach\n";
-
-// Writes a text, and answers a status where all of it was written.
-fn write_text<K: Sink>(sink: &mut K, text: &[u8], done: Status) -> Status
-    ensures { Writes text.now done (K.state sink.old) (K.state sink.new) result }
-{
-    match write_all(sink, text) {
-        Ok(()) => done,
-        Err(_) => Status::WriteFault,
-    }
-}
 
 // How a run ended that went on to the end of its time, or did not.
 fn status_of(whole: bool, forged: u32) -> Status
@@ -57,9 +47,9 @@ fn write_run<const INJECTS: usize, K: Sink>(
     let script = simulation.recording.script();
     let done = status_of(whole, simulation.recording.forged());
     match mode {
-        Mode::Run => write_text(sink, script, done),
+        Mode::Run => write_whole(sink, script, done),
         Mode::Measure => match simulation.summary(whole) {
-            Ok(counts) => write_text(sink, counts.as_str().as_bytes(), done),
+            Ok(counts) => write_whole(sink, counts.as_str().as_bytes(), done),
             Err(AllocError) => Status::Memory,
         },
     }
@@ -95,7 +85,7 @@ fn run_over<const INJECTS: usize, K: Sink>(
     };
     match Simulation::new(alloc, plan, recorder) {
         Ok(Made::Simulation(mut simulation)) => run_line(mode, &mut simulation, sink),
-        Ok(Made::Apart) => write_text(sink, APART, Status::BadDescription),
+        Ok(Made::Apart) => write_whole(sink, APART, Status::BadScript),
         Err(AllocError) => Status::Memory,
     }
 }
@@ -122,7 +112,7 @@ fn simulate<S: Source, K: Sink>(
 {
     match read_plan(alloc, source, options) {
         Ok(plan) => run_plan(alloc, mode, plan, sink),
-        Err(NoPlan::Bad(text)) => write_text(sink, text.as_bytes(), Status::BadDescription),
+        Err(NoPlan::Bad(text)) => write_whole(sink, text.as_bytes(), Status::BadScript),
         Err(NoPlan::Read) => Status::ReadFault,
         Err(NoPlan::Memory) => Status::Memory,
     }
@@ -144,6 +134,6 @@ pub fn run_tool<S: Source, K: Sink>(
 {
     match command_of(words) {
         Some(command) => simulate(alloc, command.mode, command.options, source, sink),
-        None => write_text(sink, USAGE, Status::Usage),
+        None => write_whole(sink, USAGE, Status::Usage),
     }
 }

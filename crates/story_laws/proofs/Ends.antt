@@ -25,8 +25,8 @@ use Rattle.line_tale.specs.declared.told.TaleEvent.{TaleEvent}
 use Rattle.line_tale.specs.Acts.{act_of}
 use Rattle.line_tale.specs.Keeping.{end_of, is_left, is_power_lost, is_restart, is_still, is_tick, time_of}
 use Rattle.line_tale.specs.Kinds.{actor_of}
-use Rattle.story_laws.specs.Ends.{EndedKept, EndsAreTold, HaltsUnsaid, IsNamed, IsNamedEnd, IsNone, IsToldRight, NamesAge, NamesLeaving, NamesLoss}
-use Rattle.story_laws.specs.Ends.{NamesRestart}
+use Rattle.story_laws.specs.Ends.{EndedKept, EndsAreTold, HaltsUnsaid, IsNamed, IsNamedEnd, IsNone}
+use Rattle.story_laws.specs.Ends.{IsToldRight, NamesAge, NamesLeaving, NamesLoss, NamesRestart}
 use Rattle.story_laws.specs.Ends.{ToldEndsAreSo, told_by}
 use Rattle.story_laws.proofs.Numbers.{old_told, told_old}
 use Rattle.story_laws.proofs.Words.{left_word, lost_word}

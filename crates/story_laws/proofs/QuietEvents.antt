@@ -31,8 +31,8 @@ use Rattle.line_events.specs.declared.event.StepFault.TheVariants as faults
 use Rattle.line_rules.specs.Answers.{ask_word, broadcast_word, order_word, ordered_word, scan_word, send_word, sent_word}
 use Rattle.line_rules.specs.Further.{after_ok, asks_by, bcast, path, restarts_by, restarts_further, scan, scans_by, ticks}
 use Rattle.line_rules.specs.Steps.{Step, activate, allow, allowed, breaks, breaks_by, challenge, cut, happenings, has_begun, kick, lose}
-use Rattle.line_rules.specs.Steps.{node_outcome, psk_of, rekey, restart_word, running_world, send, sends_by, sent_if, show, tag_of, tick, ticked, trace_of}
-use Rattle.line_rules.specs.Steps.{world_after}
+use Rattle.line_rules.specs.Steps.{node_outcome, psk_of, rekey, restart_word, running_world, send, sends_by}
+use Rattle.line_rules.specs.Steps.{sent_if, show, tag_of, tick, ticked, trace_of, world_after}
 use Rattle.line_rules.specs.Worlds.{World, Trace}
 use Rattle.line_tale.specs.Keeping.{is_left, is_power_lost}
 use Rattle.line_progress.proofs.Acting.{Acted, Whole, Failed, acts_either}

@@ -11,7 +11,7 @@ use Rattle.node_rules.specs.Ciphers.{OpensWhatItSeals}
 use Rattle.worked_scripts.proofs.Computing.{computed}
 use Rattle.worked_scripts.specs.ArrivalScripts.{TheRouteMayCarry, ADatagramArrives, EachNodeIsReady, EachLinkHolds, TheRouteIsStraight, TheRestIsNeeded}
 use Rattle.worked_scripts.specs.ArrivalScripts.{TheRouteMayCarryPieces, ADatagramInPiecesArrives, EachPieceNeedsACounter, PiecesNeedRoom, PiecesNeedTheirName}
-use Rattle.worked_scripts.specs.ArrivalScripts.{FourteenLinksCarry}
+use Rattle.worked_scripts.specs.ArrivalScripts.{FourteenLinksCarry, BothAreOrders, ADatagramArrivesLinkByLink, EachOrderIsNeeded}
 use Rattle.worked_scripts.specs.Scripts.{plain, plain_tag, plainly_opened}
 
 -- # The ciphers
@@ -100,6 +100,25 @@ a_datagram_arrives = (plain_opens, record { answers = refl; note = 2; up = refl 
 pub a_datagram_in_pieces_arrives : ADatagramInPiecesArrives
 unfolding computed ADatagramInPiecesArrives
 a_datagram_in_pieces_arrives = record { answers = refl; note = 2; up = refl }
+
+pub both_are_orders : BothAreOrders
+unfolding computed BothAreOrders
+both_are_orders = (
+  (ltb-true _ _ refl, (ltb-true _ _ refl, (ltb-true _ _ refl, (ltb-true _ _ refl, refl)))),
+  refl,
+  refl,
+  (ltb-true _ _ refl, (ltb-true _ _ refl, (ltb-true _ _ refl, (ltb-true _ _ refl, refl)))),
+  refl,
+  refl,
+)
+
+pub a_datagram_arrives_link_by_link : ADatagramArrivesLinkByLink
+unfolding computed ADatagramArrivesLinkByLink
+a_datagram_arrives_link_by_link = record { answers = refl; note = 2; up = refl }
+
+pub each_order_is_needed : EachOrderIsNeeded
+unfolding computed EachOrderIsNeeded
+each_order_is_needed = (refl, refl, refl, refl, refl)
 
 -- # A route that lacks one thing
 

@@ -14,12 +14,13 @@ use Rattle.node_rules.specs.StoreReading.{blank_station, first_grant, rememberin
 use Rattle.line_events.specs.declared.event.Answer.{Answer}
 use Rattle.line_events.specs.declared.event.Answer.TheVariants as answers
 use Rattle.line_events.specs.declared.event.Event.{Event}
-use Rattle.line_events.specs.declared.event.Event.TheVariants.{Send, Deliver}
+use Rattle.line_events.specs.declared.event.Event.TheVariants.{Send, Deliver, Tick}
 use Rattle.line_events.specs.declared.event.TheConstants.{MAX_EVENTS}
 use Rattle.reach_rules.specs.ReachingNodes.{nothing_beside}
 use Rattle.line_rules.specs.Runs.{run}
 use Rattle.line_rules.specs.Steps.{blank_node}
 use Rattle.line_rules.specs.Worlds.{World, start, node_at}
+use Rattle.line_progress.specs.AnyOrder.{IsOrder, answers_over, deliveries_over, ways_at_first}
 use Rattle.line_progress.specs.Arrival.{Stop, MayCarry, IsBrought, answers_of}
 use Rattle.worked_scripts.specs.Scripts.{plain, eui, group_key, pair_key, second_key, three_meters, world_of}
 
@@ -99,6 +100,56 @@ in_two_arrived = answers.Sent ∷ answers.Relayed ∷ answers.Held ∷ answers.R
 -- The datagram arrives.
 unfoldable pub ADatagramInPiecesArrives : Type 0
 ADatagramInPiecesArrives = IsBrought in_two_arrived 3 in_two (run plain line_then way_in_two)
+
+-- # In two pieces, in another order
+
+-- what is under way over the two links once it is sent: both pieces, over the first
+abbrev pub ways_in_two : List (List ℕ)
+ways_in_two = ways_at_first 6 2 (stop_of line_then 3 ∷ [])
+
+-- the deliveries over links in an order
+abbrev pub in_order : List ℕ → List Event
+in_order order = deliveries_over 8 (stop_of line_then 2 ∷ stop_of line_then 3 ∷ []) ways_in_two order
+
+-- piece by piece, and link by link
+abbrev pub by_piece : List ℕ
+by_piece = 0 ∷ 1 ∷ 0 ∷ 1 ∷ []
+
+abbrev pub by_link : List ℕ
+by_link = 0 ∷ 0 ∷ 1 ∷ 1 ∷ []
+
+-- Both are orders of deliveries, and these are their events and what is to be answered.
+unfoldable pub BothAreOrders : Type 0
+BothAreOrders =
+    IsOrder 8 ways_in_two by_piece
+    × (Send 1 3 in_two ∷ in_order by_piece ≡ way_in_two)
+    × (answers.Sent ∷ answers_over 8 ways_in_two by_piece ≡ in_two_arrived)
+    × IsOrder 8 ways_in_two by_link
+    × (in_order by_link ≡ Deliver 6 2 1 ∷ Deliver 7 2 1 ∷ Deliver 8 3 1 ∷ Deliver 9 3 1 ∷ [])
+    × (answers_over 8 ways_in_two by_link ≡ answers.Relayed ∷ answers.Relayed ∷ answers.Held ∷ answers.Up ∷ [])
+
+-- The datagram arrives link by link too.
+unfoldable pub ADatagramArrivesLinkByLink : Type 0
+ADatagramArrivesLinkByLink =
+    IsBrought (answers.Sent ∷ answers_over 8 ways_in_two by_link) 3 in_two (run plain line_then (Send 1 3 in_two ∷ in_order by_link))
+
+-- what is answered to these deliveries, once it is sent
+abbrev pub in_two_by : List Event → List Answer
+in_two_by more = answers_of (run plain line_then (Send 1 3 in_two ∷ more))
+
+-- It does not arrive where a link brings its second piece first, the second link or the first; where one link has a delivery less; where a piece
+-- comes over the first link twice; or where 60 seconds pass between its pieces.
+unfoldable pub EachOrderIsNeeded : Type 0
+EachOrderIsNeeded =
+    (in_two_by (Deliver 6 2 1 ∷ Deliver 7 2 1 ∷ Deliver 9 3 1 ∷ Deliver 8 3 1 ∷ [])
+    ≡ answers.Sent ∷ answers.Relayed ∷ answers.Relayed ∷ answers.Held ∷ answers.Replayed ∷ [])
+    × (in_two_by (Deliver 7 2 1 ∷ Deliver 6 2 1 ∷ Deliver 8 3 1 ∷ [])
+    ≡ answers.Sent ∷ answers.Relayed ∷ answers.Replayed ∷ answers.Held ∷ [])
+    × (in_two_by (in_order (0 ∷ 0 ∷ 1 ∷ [])) ≡ answers.Sent ∷ answers.Relayed ∷ answers.Relayed ∷ answers.Held ∷ [])
+    × (in_two_by (Deliver 6 2 1 ∷ Deliver 6 2 1 ∷ Deliver 8 3 1 ∷ [])
+    ≡ answers.Sent ∷ answers.Relayed ∷ answers.Replayed ∷ answers.Held ∷ [])
+    × (in_two_by (Deliver 6 2 1 ∷ Deliver 7 2 1 ∷ Deliver 8 3 1 ∷ Tick 60 ∷ Deliver 9 3 1 ∷ [])
+    ≡ answers.Sent ∷ answers.Relayed ∷ answers.Relayed ∷ answers.Held ∷ answers.Ticked ∷ answers.Held ∷ [])
 
 -- # A route that lacks one thing
 

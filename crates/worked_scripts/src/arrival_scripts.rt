@@ -1,6 +1,7 @@
 //! A datagram arrives along a route that may carry it; where the route lacks one thing alone, it does not.
 ghost use Rattle.worked_scripts.specs.ArrivalScripts.{TheRouteMayCarry, ADatagramArrives};
 ghost use Rattle.worked_scripts.specs.ArrivalScripts.{TheRouteMayCarryPieces, ADatagramInPiecesArrives, EachPieceNeedsACounter};
+ghost use Rattle.worked_scripts.specs.ArrivalScripts.{BothAreOrders, ADatagramArrivesLinkByLink, EachOrderIsNeeded};
 ghost use Rattle.worked_scripts.specs.ArrivalScripts.{PiecesNeedRoom, PiecesNeedTheirName};
 ghost use Rattle.worked_scripts.specs.ArrivalScripts.{EachNodeIsReady, EachLinkHolds, TheRouteIsStraight, TheRestIsNeeded, FourteenLinksCarry};
 
@@ -26,6 +27,25 @@ pub fn the_route_may_carry_pieces()
 #[tactic(auto, using(crate::proofs::ArrivalScripts::a_datagram_in_pieces_arrives))]
 pub fn a_datagram_in_pieces_arrives()
     ensures { ADatagramInPiecesArrives }
+{}
+
+/// Piece by piece and link by link are orders of its deliveries.
+#[tactic(auto, using(crate::proofs::ArrivalScripts::both_are_orders))]
+pub fn both_are_orders()
+    ensures { BothAreOrders }
+{}
+
+/// It arrives link by link too.
+#[tactic(auto, using(crate::proofs::ArrivalScripts::a_datagram_arrives_link_by_link))]
+pub fn a_datagram_arrives_link_by_link()
+    ensures { ADatagramArrivesLinkByLink }
+{}
+
+/// It does not arrive where a link brings its second piece first, where one has a delivery less, where a piece comes over the first link twice, or where
+/// 60 seconds pass between its pieces.
+#[tactic(auto, using(crate::proofs::ArrivalScripts::each_order_is_needed))]
+pub fn each_order_is_needed()
+    ensures { EachOrderIsNeeded }
 {}
 
 /// A datagram does not arrive where a node of the route is not there, is halted, loses power or is not joined, where its address or its index

@@ -19,9 +19,12 @@ mod waiting_scripts;
 mod way_scripts;
 
 pub use arrival_scripts::a_datagram_arrives;
+pub use arrival_scripts::a_datagram_arrives_link_by_link;
 pub use arrival_scripts::a_datagram_in_pieces_arrives;
+pub use arrival_scripts::both_are_orders;
 pub use arrival_scripts::each_link_holds;
 pub use arrival_scripts::each_node_is_ready;
+pub use arrival_scripts::each_order_is_needed;
 pub use arrival_scripts::each_piece_needs_a_counter;
 pub use arrival_scripts::fourteen_links_carry;
 pub use arrival_scripts::pieces_need_room;

@@ -1,5 +1,5 @@
--- The law, by induction on the nodes of the route and on the frames of the datagram.
-use Rattle.line_progress.proofs.Arriving.{arrive}
+-- The law: each frame over all links before the next one is an order of deliveries.
+use Rattle.line_progress.proofs.PieceByPiece.{arrive}
 use Rattle.line_progress.proofs.laws.datagrams_arrive.Goals as goal
 
 pub returns : goal.returns

@@ -8,5 +8,5 @@ returns-in-Some g c = record {
 
 pub returns-in-None : goal.returns-in-None
 returns-in-None g c = record {
-  runs = rw (← c.in-None.ensures) (record { written = c.write_text.ensures; unread = refl });
+  runs = rw (← c.in-None.ensures) (record { written = c.write_whole.ensures; unread = refl });
 }

@@ -7,4 +7,4 @@ returns-in-Ok g c = Described c.in-Ok.plan c.in-Ok.ensures.plan c.run_plan.ensur
 pub returns-in-Err-Bad : goal.returns-in-Err-Bad
 returns-in-Err-Bad g c =
     Bad _ (rw c.in-Err-Bad.field-0-is at c.in-Err-Bad.ensures.refused)
-    (rw c.in-Err-Bad.field-0-is at (rw c.as_bytes.ensures.value at c.write_text.ensures))
+    (rw c.in-Err-Bad.field-0-is at (rw c.as_bytes.ensures.value at c.write_whole.ensures))

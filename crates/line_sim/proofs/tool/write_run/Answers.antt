@@ -13,7 +13,7 @@ returns-in-Run g c = λ ran whole simulated.
     Written (wrote_run recorder c.args.whole c.status_of-done.result c.script-script.result.now
     (is_run g.row.INJECTS recorder s.leads s.fits s.quiet s.causal s.in_order s.clock)
     whole (ap (λ (s : Simulated Recorded). s.recorder) simulated) (rw c.in-Run.is c.script-script.ensures.value)
-    (rw (← c.forged.ensures) c.status_of-done.ensures) c.write_text.ensures)
+    (rw (← c.forged.ensures) c.status_of-done.ensures) c.write_whole.ensures)
 
 pub returns-in-Ok : goal.returns-in-Ok
 unfolding state_of
@@ -23,4 +23,4 @@ returns-in-Ok g c = λ ran whole simulated.
     Written (wrote_run recorder c.args.whole c.status_of-done.result c.as_bytes.result.now
     (is_run g.row.INJECTS recorder s.leads s.fits s.quiet s.causal s.in_order s.clock)
     whole (ap (λ (s : Simulated Recorded). s.recorder) simulated) (rw c.in-Measure.is c.as_bytes.ensures.utf8)
-    (rw (← c.forged.ensures) c.status_of-done.ensures) c.write_text-in-Ok.ensures)
+    (rw (← c.forged.ensures) c.status_of-done.ensures) c.write_whole-in-Ok.ensures)
