@@ -22,3 +22,4 @@ pub mod Rereading
 pub mod Beginnings
 pub mod OtherWords
 pub mod ReceivedFrames
+pub mod NextEnds

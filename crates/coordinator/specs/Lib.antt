@@ -10,3 +10,4 @@ pub mod MeshCommands
 pub mod Kicking
 pub mod JoiningReplies
 pub mod Packets
+pub mod Ends

@@ -1,5 +1,5 @@
 //! The coordinator.
-ghost use Rattle.std.specs.Prelude.{◌≡◌, ◌≤◌, length, None, Ok, Err, IfSome, is_some};
+ghost use Rattle.std.specs.Prelude.{◌≡◌, ◌≤◌, length, None, Ok, Err, IfSome, IfNone, is_some};
 ghost use Rattle.std.specs.Option.{option_map, option_and_then};
 ghost use Rattle.store_tables.specs.SlotTables.{IsGapless};
 ghost use Rattle.frame_counters.specs.PeerMarks.{peers};
@@ -8,6 +8,7 @@ ghost use Rattle.group_keys.specs.KeyBook as book;
 ghost use Rattle.node_rules.specs.Memory as memory;
 ghost use Rattle.node_rules.specs.StoreReading.{memory_of};
 ghost use Rattle.node_rules.specs.Coordinators as rules;
+ghost use Rattle.plc_station.specs.NextEnds.{IsFirstEnd};
 ghost use Rattle.plc_station.specs.Sizes.{HasSizes};
 ghost use Rattle.coordinator.specs.CoordinatorReading.{if_read, read_answer};
 ghost use Rattle.coordinator.specs.CoordinatorStates.{node_of};
@@ -131,6 +132,22 @@ impl<K: Keeper + Drop> Coordinator<K> {
         ensures store { K.store result ≡ self.station.store }
     {
         self.station.into_keeper()
+    }
+
+    /// When the first ends of what its [`tick`](Coordinator::tick) ends, in seconds: what its station ends, and its sessions. A `tick`
+    /// before that changes nothing, and one at that time ends something. None where it holds nothing that ends, and where it is halted.
+    pub fn next_end(&self) -> Option<u64>
+        ensures halted { IfNone self.now.station.memory (result ≡ None) }
+        ensures first { IfSome (node_of self.now).memory (λ m. IsFirstEnd rules.tick m result) }
+    {
+        if self.station.halted() {
+            return None;
+        }
+        let station = self.station.next_end();
+        if self.sessions.count() == 0 {
+            return station;
+        }
+        Some(self.sessions.first_end(station.unwrap_or(u64::MAX)))
     }
 
     /// Ends what is old at a time in seconds: what its station ends, and the sessions that were opened `SESSION_TIME` ago or before. A

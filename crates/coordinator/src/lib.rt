@@ -11,8 +11,8 @@
 //!   what the station makes of all else (`CoordinatorHeard`). `station` lends the station, whose calls `send` and its like are.
 //! - `challenge` opens a session with a meter that is reached over the mesh. `rekey` keeps a key for the grants from then on,
 //!   `activate` orders a meter to seal with it, and `activate_self` does so at the coordinator. `kick` shuts a meter out.
-//! - `tick` ends what is old, sessions after `SESSION_TIME`. `eui`, `address`, `address_of`, `has_session` and `sessions` look at it;
-//!   `restart` forgets all but the store, and ends a halt; `into_keeper` gives the store back.
+//! - `tick` ends what is old, sessions after `SESSION_TIME`; `next_end` says when there is something to end. `eui`, `address`,
+//!   `address_of`, `has_session` and `sessions` look at it; `restart` forgets all but the store, and ends a halt; `into_keeper` gives the store back.
 //!
 //! What its calls promise, by the names of their clauses:
 //!

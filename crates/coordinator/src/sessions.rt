@@ -1,14 +1,15 @@
 //! The sessions of the meters that join.
-ghost use Rattle.std.specs.Prelude.{◌≡◌, ◌<◌, ◌≤◌, false, [], position, length, Some, None};
+ghost use Rattle.std.specs.Prelude.{◌≡◌, ◌<◌, ◌≤◌, false, [], position, length, fold, Some, None};
 ghost use Rattle.plc_base.specs.Times as times;
 ghost use Rattle.node_rules.specs.Coordinators.{is_of};
 ghost use Rattle.node_rules.specs.declared.session_time.TheConstants.{SESSION_TIME};
+ghost use Rattle.coordinator.specs.Ends.{end_by};
 ghost use Rattle.coordinator.specs.Tables.{session_in, placed, ended, is_full_for, unexpired};
 
 use arrayvec::ArrayVec;
 use eap_psk::Server;
 use node_rules::{SESSION_TIME, Way};
-use plc_base::{Eui, Rand, is_within};
+use plc_base::{Eui, Rand, earlier_end, is_within};
 use std::marker::Model;
 
 /// The coordinator's end of the joining of a meter, whose answers go this way, since a time in seconds.
@@ -58,6 +59,13 @@ impl ServerSession {
         ensures { result ≡ times.is_within SESSION_TIME now self.now.since }
     {
         is_within(SESSION_TIME, now, self.since)
+    }
+
+    // The earlier of a time and of when it has lasted for too long.
+    fn end_by(&self, time: u64) -> u64
+        ensures { result ≡ end_by time self.now }
+    {
+        earlier_end(SESSION_TIME, time, self.since)
     }
 }
 
@@ -133,6 +141,17 @@ impl Sessions {
         ensures { self.new ≡ ended eui self.old }
     {
         self.items.retain(|session| !session.is_of(eui));
+    }
+
+    /// The earlier of a time and of when the first session has lasted for too long, in seconds.
+    pub(crate) fn first_end(&self, time: u64) -> u64
+        ensures { result ≡ fold end_by time self.now }
+    {
+        let mut end = time;
+        for session in self.items.iter() {
+            end = session.end_by(end);
+        }
+        end
     }
 
     /// Ends the sessions that were opened `SESSION_TIME` ago or before.

@@ -7,3 +7,4 @@ pub mod ChallengeSteps
 pub mod DispatchRules
 pub mod AcceptingRules
 pub mod ReceivedFrames
+pub mod NextEnds

@@ -5,3 +5,4 @@ pub mod Reading
 pub mod Hearing
 pub mod SendingUp
 pub mod Laws
+pub mod Ends

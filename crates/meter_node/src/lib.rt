@@ -8,8 +8,8 @@
 //! - `join` opens a session and sends JOIN to an agent: the coordinator, or a joined neighbour.
 //! - `receive` takes each frame that comes: its station accepts it, and `hear` takes a joining message or carries it on, and hands on
 //!   what the station makes of all else (`MeterHeard`). `station` lends the station, whose calls `send` and its like are.
-//! - `tick` ends what is old at a time in seconds, a session after `SESSION_TIME`. `leave` drops the ring; `restart` forgets all but the store, and
-//!   ends a halt; `into_keeper` gives the store back.
+//! - `tick` ends what is old at a time in seconds, a session after `SESSION_TIME`; `next_end` says when there is something to end. `leave`
+//!   drops the ring; `restart` forgets all but the store, and ends a halt; `into_keeper` gives the store back.
 //!
 //! What its calls promise, by the names of their clauses:
 //!

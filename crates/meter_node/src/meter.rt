@@ -10,8 +10,10 @@ ghost use Rattle.node_rules.specs.Meters as meters;
 ghost use Rattle.node_rules.specs.StoreReading.{memory_of};
 ghost use Rattle.node_rules.specs.Agreement.{Agrees};
 ghost use Rattle.meter_node.specs.MeterCalls.{MeterAfter};
+ghost use Rattle.plc_station.specs.NextEnds.{IsFirstEnd};
 ghost use Rattle.plc_station.specs.Sizes.{HasSizes};
 ghost use Rattle.meter_node.specs.MeterStates.{node_of};
+ghost use Rattle.meter_node.specs.Ends.{IsSooner};
 ghost use Rattle.meter_node.specs.Sessions.{session_of};
 ghost use Rattle.meter_node.specs.Reading.{read_answer, IsOpenFault};
 
@@ -19,7 +21,7 @@ use crate::pair_key::PairKey;
 use crate::session::Session;
 use joining_base::RandomValues;
 use node_rules::SESSION_TIME;
-use plc_base::{BadStore, Eui, Keeper, Key, Short, is_within};
+use plc_base::{BadStore, Eui, Keeper, Key, Short, earlier_end, is_within};
 use plc_station::{OpenFault, Station};
 use std::alloc::Global;
 use std::marker::Model;
@@ -141,6 +143,18 @@ impl<K: Keeper + Drop> Meter<K> {
         self.station.last_reply()
     }
 
+    /// When the first ends of what its [`tick`](Meter::tick) ends, in seconds: what its station ends, and its session. A `tick` before
+    /// that changes nothing, and one at that time ends something. None where it holds nothing that ends, and where it is halted.
+    pub fn next_end(&self) -> Option<u64>
+        ensures halted { IfNone self.now.station.memory (result ≡ None) }
+        ensures first { IfSome (node_of self.now).memory (λ m. IsFirstEnd meters.tick m result) }
+    {
+        if self.station.halted() {
+            return None;
+        }
+        end_with(self.station.next_end(), &self.session)
+    }
+
     /// Ends what is old at a time in seconds: what its station ends, and a session after `SESSION_TIME`. A halted meter stays as it is.
     pub fn tick(&mut self, now: u64)
         requires agrees { Agrees self.old.station }
@@ -171,6 +185,16 @@ impl<K: Keeper + Drop> Meter<K> {
         self.session = None;
         self.station.restart()
     }
+}
+
+// The earlier of an end and of that of a session.
+fn end_with(end: Option<u64>, session: &Option<Session>) -> Option<u64>
+    ensures { IsSooner end (option_map session_of session.now) result }
+{
+    let Some(session) = session else {
+        return end;
+    };
+    Some(earlier_end(SESSION_TIME, end.unwrap_or(u64::MAX), session.since))
 }
 
 // Ends a session that began `SESSION_TIME` ago or before. It is looked at where it stands, since it has many octets and most ticks end none.

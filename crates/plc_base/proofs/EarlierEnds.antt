@@ -1,8 +1,8 @@
 -- The first of several ends.
-use Rattle.std.proofs.Common.{ℕ, ◌≤◌, List, [], ◌∷◌, min, arith}
+use Rattle.std.proofs.Common.{ℕ, ◌<◌, ◌≤◌, List, [], ◌∷◌, min, arith}
 use Rattle.std.specs.Prelude.{fold}
 use Rattle.std.specs.List.{All}
-use Rattle.std.proofs.lemmas.List.Elements.{All-nil, All-cons}
+use Rattle.std.proofs.lemmas.List.Elements.{All-nil, All-cons, All-head, All-tail}
 
 -- the earlier of two times is after neither
 pub earlier : (time end : ℕ) → (min time end ≤ time) × (min time end ≤ end)
@@ -20,3 +20,11 @@ all_last end_by Lasts one lasts (x ∷ xs) time =
       omega (arith, rest.0, first.0),
       All-cons (Lasts (fold end_by (end_by time x) xs)) x xs (lasts (fold end_by (end_by time x) xs) (end_by time x) x rest.0 first.1) rest.1,
     )
+
+-- Where each of several items leaves a time that is after now after now, the time that they make together is after now.
+pub all_after : {A : Type 0} (end_by : ℕ → A → ℕ) (Lasts : A → Type 0) (now : ℕ)
+    → ((time : ℕ) (x : A) → now < time → Lasts x → now < end_by time x)
+    → (xs : List A) (time : ℕ) → now < time → All Lasts xs → now < fold end_by time xs
+all_after end_by Lasts now one [] time after h = after
+all_after end_by Lasts now one (x ∷ xs) time after h =
+    all_after end_by Lasts now one xs (end_by time x) (one time x after (All-head Lasts x xs h)) (All-tail Lasts x xs h)

@@ -21,3 +21,4 @@ pub mod Locals
 pub mod Replying
 pub mod Holding
 pub mod Rising
+pub mod NextEnds

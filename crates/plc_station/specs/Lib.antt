@@ -11,3 +11,4 @@ pub mod Offers
 pub mod NextSteps
 pub mod OwnLoads
 pub mod Rising
+pub mod NextEnds

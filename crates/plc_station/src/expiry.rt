@@ -1,14 +1,40 @@
 //! What time and broken links end in a station.
-ghost use Rattle.std.specs.Prelude.{◌≡◌, Some, Ok, Err, IfSome, IfNone};
+ghost use Rattle.std.specs.Prelude.{◌≡◌, Some, None, Ok, Err, IfSome, IfNone};
 ghost use Rattle.std.specs.Option.{option_map};
 ghost use Rattle.node_rules.specs.Calls as calls;
 ghost use Rattle.node_rules.specs.Agreement.{Agrees};
+ghost use Rattle.plc_station.specs.NextEnds as next_ends;
 
 use crate::station::Station;
 use node_rules::Halted;
 use plc_base::{Keeper, Short};
 
+// An end, None where it is the last time of the clock.
+fn end_given(end: u64) -> Option<u64>
+    ensures { result ≡ next_ends.end_given end }
+{
+    if end == u64::MAX {
+        return None;
+    }
+    Some(end)
+}
+
 impl<K: Keeper + Drop> Station<K> {
+    /// When the first ends of what its [`tick`](Station::tick) ends, in seconds: a route, a datagram that is gathered, what waits for a
+    /// route. A `tick` before that changes nothing, and one at that time ends something. None where it holds nothing that ends, and
+    /// where it is halted.
+    pub fn next_end(&self) -> Option<u64>
+        ensures halted { IfNone self.now.memory (result ≡ None) }
+        ensures first { IfSome self.now.memory (λ l. next_ends.IsFirstEnd calls.tick l result) }
+    {
+        if self.halted {
+            return None;
+        }
+        let routes = self.parts.routing.next_end();
+        let bodies = self.bodies.next_end();
+        end_given(routes.min(bodies))
+    }
+
     /// Ends the routes by a neighbour, to which the link broke. Halted.
     pub fn broke(&mut self, next: Short) -> Result<(), Halted>
         requires agrees { Agrees self.old }

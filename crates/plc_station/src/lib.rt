@@ -13,7 +13,8 @@
 //!   what is inside ([`Accepted`]), and `hear`, which takes that, once: both are there for one who looks at a frame between them.
 //! - `send` sends a datagram of up to 1,280 octets, `send_command` a command over the mesh, and `send_local` one to neighbours.
 //!   `room` says beforehand what a command would be refused for.
-//! - `tick` ends what is old at a time in seconds; `broke` ends the routes by a neighbour that is not reached any more.
+//! - `tick` ends what is old at a time in seconds, and `next_end` says when there is something to end; `broke` ends the routes by a
+//!   neighbour that is not reached any more.
 //! - `halted`, `shown`, `ring`, `routing`, `valid` and `last_reply` look at it. `restart` forgets all but the store, and ends a
 //!   halt.
 //!

@@ -3,10 +3,10 @@ use Rattle.std.proofs.Common.{◌≡◌, ℕ, ◌+◌, ◌<◌, ◌≤◌, not, 
 use Rattle.std.proofs.Common.{arith}
 use Rattle.std.specs.List.{All}
 use Rattle.std.specs.Option.{option_map_or}
-use Rattle.std.proofs.lemmas.Bool.{cond-false, lt-ltb}
+use Rattle.std.proofs.lemmas.Bool.{cond-false, lt-ltb, ltb-true, not-false}
 use Rattle.std.proofs.lemmas.List.Elements.{All-head, All-tail, All-map}
 use Rattle.plc_base.specs.Times.{is_within, earlier_end}
-use Rattle.plc_base.proofs.EarlierEnds.{earlier, all_last}
+use Rattle.plc_base.proofs.EarlierEnds.{earlier, all_last, all_after}
 use Rattle.routing_set.specs.declared.entry.Route.{Route}
 use Rattle.routing_set.specs.declared.entry.RoutingEntry.{RoutingEntry}
 use Rattle.routing_set.specs.RoutingSet.{Routing, is_old, without_route, expired}
@@ -71,3 +71,29 @@ all_stay (e ∷ entries) time now lt h =
 -- before the first end, a tick changes nothing
 pub none_ends : (routing : Routing) (time now : ℕ) → now < time → IsStill time routing.entries → expired routing now ≡ routing
 none_ends routing time now lt h = ap (λ (es : List RoutingEntry). record routing { entries = es }) (all_stay routing.entries time now lt h)
+
+-- a route that is not old now ends after now
+ends_later : (now time : ℕ) (route : Option Route) → now < time
+    → option_map_or (λ r. not (is_within ROUTE_VALID_TIME now r.offered)) route false ≡ false
+    → now < option_map_or (λ r. earlier_end ROUTE_VALID_TIME time r.offered) route time
+ends_later now time None after h = after
+ends_later now time (Some r) after h =
+    let within = ltb-true now (r.offered + ROUTE_VALID_TIME) (not-false _ h) in
+    omega (arith, after, within)
+
+-- what a tick leaves is not old
+rested_young : (old : Bool) (now : ℕ) (e : RoutingEntry) → is_old now e ≡ old → is_old now (cond old (without_route e) e) ≡ false
+rested_young true now e is = refl
+rested_young false now e is = is
+
+all_young : (now : ℕ) (entries : List RoutingEntry) → All (λ e. is_old now e ≡ false) (map (rested now) entries)
+all_young now entries =
+    All-map (λ (e : RoutingEntry). is_old now e ≡ false) (rested now) entries
+    (λ k d lt. rested_young (is_old now (get_or entries k d)) now (get_or entries k d) refl)
+
+-- a tick that changes nothing is before the first end
+pub ends_after : (routing : Routing) (now : ℕ) → now < 18446744073709551615 → expired routing now ≡ routing → now < first_end routing.entries
+unfolding first_end
+ends_after routing now clock same =
+    all_after end_by (λ (e : RoutingEntry). is_old now e ≡ false) now (λ time e. ends_later now time e.route) routing.entries 18446744073709551615 clock
+    (subst (λ (es : List RoutingEntry). All (λ e. is_old now e ≡ false) es) (λ i. (same i).entries) (all_young now routing.entries))

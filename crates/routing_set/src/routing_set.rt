@@ -372,10 +372,13 @@ impl RoutingSet {
         end
     }
 
-    // When the first valid route ends, in seconds: before that, none does. It is 2^64 - 1 where none is valid.
-    fn next_end(&self) -> u64
+    /// When the first valid route ends, in seconds: [`expire`](RoutingSet::expire) changes nothing before that, and something from then
+    /// on. It is 2^64 - 1 where no route is valid.
+    pub fn next_end(&self) -> u64
         ensures value { result ≡ first_end self.now.entries }
         ensures still { IsStill result self.now.entries }
+        ensures waits { (time : ℕ) → time < result → expired self.now time ≡ self.now }
+        ensures ends { (time : ℕ) → time < 18446744073709551615 → expired self.now time ≡ self.now → time < result }
     {
         self.first_end()
     }

@@ -1,12 +1,12 @@
 -- Before the first of the bodies ends, none does.
-use Rattle.std.proofs.Common.{◌≡◌, ℕ, suc, ◌+◌, ◌<◌, ◌≤◌, List, [], ◌∷◌, ◌++◌, take, drop, refl, sym, ap, ◌∙◌, arith}
+use Rattle.std.proofs.Common.{◌≡◌, ℕ, true, suc, ◌+◌, ◌<◌, ◌≤◌, List, [], ◌∷◌, ◌++◌, take, drop, refl, sym, ap, subst, ◌∙◌, arith}
 use Rattle.std.specs.Prelude.{fold}
-use Rattle.std.specs.List.{All, remove}
-use Rattle.std.proofs.lemmas.Bool.{cond-true, lt-ltb}
+use Rattle.std.specs.List.{All, filter, remove}
+use Rattle.std.proofs.lemmas.Bool.{cond-true, lt-ltb, ltb-true}
 use Rattle.std.proofs.lemmas.List.Folds.{fold-map}
-use Rattle.std.proofs.lemmas.List.Elements.{All-nil, All-head, All-tail, All-map, All-push, All-append, All-take, All-drop}
-use Rattle.plc_base.specs.Times.{earlier_end}
-use Rattle.plc_base.proofs.EarlierEnds.{earlier, all_last}
+use Rattle.std.proofs.lemmas.List.Elements.{All-nil, All-head, All-tail, All-map, All-push, All-append, All-take, All-drop, filter_passes}
+use Rattle.plc_base.specs.Times.{earlier_end, is_within}
+use Rattle.plc_base.proofs.EarlierEnds.{earlier, all_last, all_after}
 use Rattle.block_pool.specs.Pool.{PoolState}
 use Rattle.mesh_header.specs.Pieces.{Placed}
 use Rattle.fragment_buffers.specs.Reassembly.{Reassembly}
@@ -98,3 +98,26 @@ pub none_ends : (h : Held) (time now : ℕ) → now < time → IsStill time h
     → ◌≡◌ {A = Held} (record { reassemblies = unexpired h.reassemblies now; waiting = still_waiting now h.waiting }) h
 none_ends h time now lt s =
     λ i. record { reassemblies = none_expires h.reassemblies time now lt s.gathered i; waiting = all_wait h.waiting time now lt s.waiting i }
+
+-- what began within so many seconds ends after now
+pub ends_later : (seconds now time since : ℕ) → now < time → is_within seconds now since ≡ true → now < earlier_end seconds time since
+ends_later seconds now time since after h = let within = ltb-true now (since + seconds) h in omega (arith, after, within)
+
+-- Where a tick takes nothing of a list, all in it end after now.
+pub all_later : {A : Type 0} (seconds now : ℕ) (since : A → ℕ) (xs : List A) (time : ℕ) → now < time
+    → filter (λ x. is_within seconds now (since x)) xs ≡ xs
+    → now < fold (λ until x. earlier_end seconds until (since x)) time xs
+all_later {A} seconds now since xs time after same =
+    let Young : A → Type 0 = λ x. is_within seconds now (since x) ≡ true in
+    all_after (λ until x. earlier_end seconds until (since x)) Young now (λ until x. ends_later seconds now until (since x)) xs time after
+    (subst (All Young) same (filter_passes (λ x. is_within seconds now (since x)) xs))
+
+-- a tick that changes nothing is before the first end
+pub ends_after : (h : Held) (now : ℕ) → now < 18446744073709551615
+    → h ≡ record { reassemblies = unexpired h.reassemblies now; waiting = still_waiting now h.waiting }
+    → now < first_end h
+unfolding first_end unexpired
+ends_after h now clock same =
+    all_later WAITING_TIME now (λ (b : Body). b.since) h.waiting _
+    (all_later REASSEMBLY_TIME now (λ (r : Reassembly). r.since) h.reassemblies 18446744073709551615 clock (λ i. (sym same i).reassemblies))
+    (λ i. (sym same i).waiting)

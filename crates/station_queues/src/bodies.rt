@@ -452,10 +452,19 @@ impl Bodies {
         }
     }
 
-    // When the first of all ends, in seconds: before that, nothing does. It is 2^64 - 1 where nothing is held.
-    fn next_end(&self) -> u64
+    /// When the first of all ends, in seconds: [`expire`](Bodies::expire) changes nothing before that, and something from then on. It is
+    /// 2^64 - 1 where nothing is held.
+    pub fn next_end(&self) -> u64
         ensures value { result ≡ ends.first_end self.now }
         ensures still { IsStill result self.now }
+        ensures waits { (time : ℕ) → time < result → self.now ≡ record {
+          reassemblies = unexpired self.now.reassemblies time;
+          waiting = still_waiting time self.now.waiting;
+        } }
+        ensures ends { (time : ℕ) → time < 18446744073709551615 → self.now ≡ record {
+          reassemblies = unexpired self.now.reassemblies time;
+          waiting = still_waiting time self.now.waiting;
+        } → time < result }
     {
         first_end(&self.waiting, self.reassembly.next_end())
     }

@@ -130,7 +130,12 @@ impl Driver {
         self.meter.address()
     }
 
-    /// Ends what is old. Call it once a second, with the seconds since the meter began, which never go back.
+    /// When the next `tick` has something to end, in seconds. Ask after each call, and sleep until then.
+    pub fn next_end(&self) -> Option<u64> {
+        self.meter.next_end()
+    }
+
+    /// Ends what is old. Call it at `next_end`, or once a second, with the seconds since the meter began, which never go back.
     pub fn tick(&mut self, now: u64) {
         self.meter.tick(now);
     }
