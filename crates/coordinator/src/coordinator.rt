@@ -111,20 +111,27 @@ impl<K: Keeper + Drop> Coordinator<K> {
         self.sessions.of(eui).is_some()
     }
 
-    /// How many sessions are open. What it holds keeps its sizes, whatever its keeper is: at most 8 sessions, 8 random values and 999 meters
-    /// in its book, and its station's tables as [`Station::waiting`] has them. Of the station of a halted one that says nothing.
+    /// How many sessions are open: at most 8.
     pub fn sessions(&self) -> usize
         ensures value { result ≡ length self.now.sessions }
+        ensures sessions { length self.now.sessions ≤ 8 }
+    {
+        self.sessions.count()
+    }
+
+    /// A law, for whoever stands on it: what a coordinator holds keeps its sizes, whatever its keeper is: at most 8 sessions, 8 random
+    /// values and 999 meters in its book, and its station's tables as [`Station::keeps_sizes`] has them. Of the station of a halted one that
+    /// says nothing. The call does nothing.
+    pub fn keeps_sizes(&self)
         ensures sessions { length self.now.sessions ≤ 8 }
         ensures randoms { length self.now.randoms ≤ 8 }
         ensures book { length self.now.book ≤ 999 }
         ensures sized { IfSome self.now.station.memory HasSizes }
     {
-        // The tables keep their sizes by their types.
-        let _waiting = self.station.waiting();
+        self.station.keeps_sizes();
+        let _sessions = self.sessions.count();
         let _randoms = self.randoms.count();
         let _meters = self.book.entries();
-        self.sessions.count()
     }
 
     /// Gives the keeper back, as std's `into_inner` does. What the coordinator held in memory is forgotten.

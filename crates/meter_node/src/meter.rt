@@ -116,16 +116,22 @@ impl<K: Keeper + Drop> Meter<K> {
         self.station.ring().joined()
     }
 
-    /// How many random values it holds that it has not used yet. What it holds keeps its sizes, whatever its keeper is: at most 8 random
-    /// values, and its station's tables as [`Station::waiting`] has them. Of the station of a halted one that says nothing.
+    /// How many random values it holds that it has not used yet: at most 8.
     pub fn random_values(&self) -> usize
         ensures value { result ≡ length self.now.randoms }
         ensures randoms { length self.now.randoms ≤ 8 }
+    {
+        self.randoms.count()
+    }
+
+    /// A law, for whoever stands on it: what a meter holds keeps its sizes, whatever its keeper is: at most 8 random values, and its
+    /// station's tables as [`Station::keeps_sizes`] has them. Of the station of a halted one that says nothing. The call does nothing.
+    pub fn keeps_sizes(&self)
+        ensures randoms { length self.now.randoms ≤ 8 }
         ensures sized { IfSome self.now.station.memory HasSizes }
     {
-        // The tables keep their sizes by their types.
-        let _waiting = self.station.waiting();
-        self.randoms.count()
+        self.station.keeps_sizes();
+        let _randoms = self.randoms.count();
     }
 
     /// Gives the keeper back, as std's `into_inner` does. What the meter held in memory is forgotten.

@@ -63,6 +63,7 @@ mod sealing;
 mod sending;
 mod showing;
 mod station;
+mod unopened;
 
 pub use accepted::Accepted;
 pub use receiving::Buffers;

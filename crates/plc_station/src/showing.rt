@@ -239,16 +239,22 @@ impl<K: Keeper + Drop> Station<K> {
         self.parts.counter.left()
     }
 
-    /// How many datagrams and commands wait for a route. What it holds keeps its sizes, whatever its keeper is: at most 64 senders and 64
-    /// ranks, and at most 8 reassemblies in 80 blocks and 8 bodies that wait in 80 other ones. Of a halted one that says nothing.
+    /// How many datagrams and commands wait for a route: at most 8.
     pub fn waiting(&self) -> usize
         ensures value { IfSome self.now.memory (λ l. result ≡ length l.waiting) }
+    {
+        self.bodies.count()
+    }
+
+    /// A law, for whoever stands on it: what a station holds keeps its sizes, whatever its keeper is: at most 64 senders and 64 ranks, and
+    /// at most 8 reassemblies in 80 blocks and 8 bodies that wait in 80 other ones. Of a halted one that says nothing. The call does
+    /// nothing.
+    pub fn keeps_sizes(&self)
         ensures sized { IfSome self.now.memory HasSizes }
     {
-        // The tables keep their sizes by their types.
         let _senders = self.parts.marks.entries();
         let _ranks = self.parts.routing.entries();
-        self.bodies.count()
+        let _waiting = self.bodies.count();
     }
 
     /// The next hop of the valid route to an address and the cost of the address's rank, None where it has no valid route. One that
