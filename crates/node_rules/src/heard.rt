@@ -62,7 +62,7 @@ pub struct Reply {
 
 /// What a station made of a frame that it accepted. Octets stay where they are: in the frame's payload, or in the buffer that the
 /// caller lent for datagrams that come in pieces.
-#[derive(Drop)]
+#[derive(Debug, Drop)]
 pub enum Heard<'a> {
     /// A datagram is handed up.
     Up {
@@ -115,7 +115,7 @@ pub enum SentHow {
 }
 
 /// What a meter made of a frame that it accepted.
-#[derive(Drop)]
+#[derive(Debug, Drop)]
 pub enum MeterHeard<'a> {
     /// What its station made of it.
     Station(Heard<'a>),
@@ -136,7 +136,7 @@ pub enum MeterHeard<'a> {
 }
 
 /// What the coordinator made of a frame that it accepted.
-#[derive(Drop)]
+#[derive(Debug, Drop)]
 pub enum CoordinatorHeard<'a> {
     /// What its station made of it.
     Station(Heard<'a>),

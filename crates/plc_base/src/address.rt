@@ -2,7 +2,9 @@
 ghost use Rattle.std.specs.Prelude.{◌≡◌, ◌↔◌, IsSome, IfSome};
 ghost use Rattle.plc_base.specs.Addresses.{IsAddress, eui_number};
 
+use crate::out_of_range::OutOfRange;
 use byteorder::{BigEndian, ByteOrder};
+use std::fmt;
 use std::marker::Model;
 
 /// The identifier of the personal area network that every node of this profile belongs to.
@@ -74,5 +76,29 @@ impl Short {
         ensures valid { IsAddress result }
     {
         u64::from(self.number)
+    }
+}
+
+impl TryFrom<u16> for Short {
+    ghost use Rattle.std.specs.Result.{OkIff};
+    ghost use Rattle.plc_base.specs.Addresses.{IsAddress};
+
+    type Error = OutOfRange;
+
+    ghost try_from_gives = { λ number r. OkIff r (IsAddress number) number };
+
+    /// OutOfRange exactly for FFFE and FFFF.
+    fn try_from(number: u16) -> Result<Short, OutOfRange> {
+        match Short::new(number) {
+            Some(address) => Ok(address),
+            None => Err(OutOfRange),
+        }
+    }
+}
+
+impl fmt::Display for Short {
+    /// Four digits, as scripts and reports write it.
+    fn fmt<W: fmt::Write>(&self, f: &mut fmt::Formatter<W>) -> fmt::Result {
+        write!(f, "{:04x}", self.number)
     }
 }

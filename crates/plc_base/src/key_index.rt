@@ -1,6 +1,7 @@
 //! The index of a group key.
 ghost use Rattle.std.specs.Prelude.{◌≡◌, ◌≤◌, ◌↔◌, IsSome, IfSome};
 
+use crate::out_of_range::OutOfRange;
 use std::marker::Model;
 
 /// The index of a group key: 0 or 1 (the key identifier of IEEE 802.15.4-2006, 7.6.2.4.2).
@@ -55,5 +56,22 @@ impl KeyIndex {
         ensures valid { result ≤ 1 }
     {
         self.number
+    }
+}
+
+impl TryFrom<u8> for KeyIndex {
+    ghost use Rattle.std.specs.Result.{OkIff};
+    ghost use Rattle.std.specs.Prelude.{◌≤◌};
+
+    type Error = OutOfRange;
+
+    ghost try_from_gives = { λ number r. OkIff r (number ≤ 1) number };
+
+    /// OutOfRange exactly above 1.
+    fn try_from(number: u8) -> Result<KeyIndex, OutOfRange> {
+        match KeyIndex::new(number) {
+            Some(index) => Ok(index),
+            None => Err(OutOfRange),
+        }
     }
 }

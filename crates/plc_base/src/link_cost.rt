@@ -1,6 +1,7 @@
 //! The cost of one hop.
 ghost use Rattle.std.specs.Prelude.{◌≡◌, ◌<◌, ◌↔◌, IsSome, IfSome};
 
+use crate::out_of_range::OutOfRange;
 use std::marker::Model;
 
 /// The cost of the link between two neighbours: 1 to 255. A contract sees the number.
@@ -39,5 +40,22 @@ impl LinkCost {
         ensures valid { 0 < result }
     {
         self.cost
+    }
+}
+
+impl TryFrom<u8> for LinkCost {
+    ghost use Rattle.std.specs.Result.{OkIff};
+    ghost use Rattle.std.specs.Prelude.{◌<◌};
+
+    type Error = OutOfRange;
+
+    ghost try_from_gives = { λ number r. OkIff r (0 < number) number };
+
+    /// OutOfRange exactly for 0.
+    fn try_from(number: u8) -> Result<LinkCost, OutOfRange> {
+        match LinkCost::new(number) {
+            Some(cost) => Ok(cost),
+            None => Err(OutOfRange),
+        }
     }
 }

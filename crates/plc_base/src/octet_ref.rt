@@ -4,7 +4,7 @@ ghost use Rattle.std.specs.Prelude.{◌≡◌};
 use std::marker::Model;
 
 /// Octets that stand elsewhere, so that nothing is copied with them. A contract sees the list of them.
-#[derive(Drop)]
+#[derive(Debug, Drop)]
 pub struct OctetRef<'a> {
     items: &'a [u8],
 }
