@@ -14,8 +14,8 @@ use Rattle.store_tables.proofs.SlotTables.{stored_elsewhere}
 use Rattle.store_tables.proofs.WritesLemmas.{wrote_one}
 use Rattle.group_keys.specs.KeyRing as ring
 use Rattle.group_keys.specs.KeyBook as book
-use Rattle.group_keys.specs.declared.fault.RingFault.{RingFault}
-use Rattle.group_keys.specs.declared.fault.RingFault.TheVariants as rings
+use Rattle.node_rules.specs.declared.refusal.RingRefusal.{RingRefusal}
+use Rattle.node_rules.specs.declared.refusal.RingRefusal.TheVariants as rings
 use Rattle.node_rules.specs.declared.heard.Reply.{Reply}
 use Rattle.node_rules.specs.Memory.{StationMemory, Memory, CoordinatorSession}
 use Rattle.node_rules.specs.MemoryDrafts.{in_memory, with_station, on_station}
@@ -61,10 +61,10 @@ module _ (m : Memory) (g : Granted) where
   installs none = rw none refl
 
   -- whether a ring is there decides the plan
-  planned : Bool → Plan Memory (Result (Unit {0}) RingFault)
+  planned : Bool → Plan Memory (Result (Unit {0}) RingRefusal)
   planned has = choose has (resting m (Ok tt) (Err rings.Store)) (within (λ l. with_station l m) (λ r. r) (install m.station g))
 
-  halted_by : (s : State Memory) (eui : Eui) (has : Bool) (reason : RingFault) (left : Store) (done : Bool) → s.eui ≡ eui
+  halted_by : (s : State Memory) (eui : Eui) (has : Bool) (reason : RingRefusal) (left : Store) (done : Bool) → s.eui ≡ eui
       → Wrote s.store (planned has).puts done left
       → Err reason ≡ (if done then (planned has).answer else (planned has).failed) → Carries s (planned has) (Err rings.Store) nothing (halted_state left eui)
   unfolding planned choose resting with_ring empty_draft
@@ -88,7 +88,7 @@ module _ (m : Memory) (g : Granted) where
       }
 
   -- nothing is left of it but its store, where it was refused
-  halted_carries : (s : State Memory) (eui : Eui) (reason : RingFault) (new : State Memory) → s.eui ≡ eui → Carries s (begin m g) (Err reason) nothing new
+  halted_carries : (s : State Memory) (eui : Eui) (reason : RingRefusal) (new : State Memory) → s.eui ≡ eui → Carries s (begin m g) (Err reason) nothing new
       → Carries s (begin m g) (Err rings.Store) nothing (halted_state new.store eui)
   unfolding planned
   halted_carries s eui reason new own h = halted_by s eui (is_some m.station.ring) reason new.store h.done own h.wrote h.answer_is
@@ -209,10 +209,10 @@ module _ (store : Store) (eui : Eui) (key : Key) (b : book.Book) where
   started o = record { store = store; eui = eui; memory = stations.if_read o; replied = None }
 
   -- the plan of a coordinator with this book is carried out
-  abbrev pub Begun : State StationMemory → Result (Unit {0}) RingFault → State Memory → Type 0
+  abbrev pub Begun : State StationMemory → Result (Unit {0}) RingRefusal → State Memory → Type 0
   Begun s answer new = IfSome s.memory (λ l. Carries (state_in s [] [] b) (begin (memory_in [] [] b l) (first_grant key)) answer nothing new)
 
-  begins_by : (answer : Result (Unit {0}) RingFault) (new : State Memory) (o : Result StationMemory BadStore) → station_of store.records ≡ o
+  begins_by : (answer : Result (Unit {0}) RingRefusal) (new : State Memory) (o : Result StationMemory BadStore) → station_of store.records ≡ o
       → slots.opened book.entries store.records ≡ Ok b
       → IsSome (stations.if_read o)
       → Begun (started o) answer new
@@ -227,7 +227,7 @@ module _ (store : Store) (eui : Eui) (key : Key) (b : book.Book) where
   module _ (s : State StationMemory) (is : s ≡ started (station_of store.records)) (running : IsSome s.memory)
       (opened : slots.opened book.entries s.store.records ≡ Ok b) where
     -- what the records give was read, and the plan carried out
-    pub begins : (answer : Result (Unit {0}) RingFault) (new : State Memory) → Begun s answer new → Begins store eui key answer new
+    pub begins : (answer : Result (Unit {0}) RingRefusal) (new : State Memory) → Begun s answer new → Begins store eui key answer new
     begins answer new h =
         begins_by answer new (station_of store.records) refl
         (subst (λ (k : State StationMemory). slots.opened book.entries k.store.records ≡ Ok b) is opened)
@@ -235,7 +235,7 @@ module _ (store : Store) (eui : Eui) (key : Key) (b : book.Book) where
         (subst (λ (k : State StationMemory). Begun k answer new) is h)
 
     -- the first ring was not stored
-    pub refuses : (reason : RingFault) (new : State Memory) → Begun s (Err reason) new → Begins store eui key (Err rings.Store) (halted_state new.store eui)
+    pub refuses : (reason : RingRefusal) (new : State Memory) → Begun s (Err reason) new → Begins store eui key (Err rings.Store) (halted_state new.store eui)
     refuses reason new h =
         begins (Err rings.Store) (halted_state new.store eui)
         (if_some s.memory _ (λ l at. halted_carries (memory_in [] [] b l) (first_grant key) (state_in s [] [] b) eui reason new

@@ -31,6 +31,11 @@ module _ (randoms : List Rand) (sessions : List CoordinatorSession) (b : book.Bo
   part_joined None h = tt
   part_joined (Some l) h = has_ring l.ring h.home
 
+  pub part_ring : (o : Option StationMemory) (l : StationMemory) → o ≡ Some l
+      → IfSome (option_map (memory_in randoms sessions b) o) (λ m. CoordinatorAgreesWith m records)
+      → IsSome l.ring
+  part_ring o l running h = at_some o (λ l. IsSome l.ring) l running (part_joined o h)
+
   pub part_book : (o : Option StationMemory) → IsSome (option_map (memory_in randoms sessions b) o)
       → IfSome (option_map (memory_in randoms sessions b) o) (λ m. CoordinatorAgreesWith m records)
       → book.AgreesWith b records

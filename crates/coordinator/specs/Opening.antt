@@ -4,8 +4,8 @@ use Rattle.std.specs.FinMap.{get}
 use Rattle.plc_base.specs.Keeper.{Records, Store}
 use Rattle.plc_base.specs.declared.address.Eui.{Eui}
 use Rattle.plc_base.specs.declared.key.Key.{Key}
-use Rattle.group_keys.specs.declared.fault.RingFault.{RingFault}
-use Rattle.group_keys.specs.declared.fault.RingFault.TheVariants as rings
+use Rattle.node_rules.specs.declared.refusal.RingRefusal.{RingRefusal}
+use Rattle.node_rules.specs.declared.refusal.RingRefusal.TheVariants as rings
 use Rattle.group_keys.specs.KeyBook.{Book}
 use Rattle.plc_base.specs.declared.keeper.BadStore.{BadStore}
 use Rattle.group_keys.specs.KeyRing.{ring_at, ring_slot}
@@ -28,7 +28,7 @@ halted_state store eui = record { store = store; eui = eui; memory = None; repli
 
 -- The store was read, and where it holds no ring, one with the address 0000 and this key, active at index 0, was installed, or
 -- was not: the answer says which.
-pub record Begins (store : Store) (eui : Eui) (key : Key) (answer : Result (Unit {0}) RingFault)
+pub record Begins (store : Store) (eui : Eui) (key : Key) (answer : Result (Unit {0}) RingRefusal)
     (new : State Memory) : Type 0 where
   pub memory : Memory
   pub read : memory_of Coordinator store.records ≡ Ok memory

@@ -15,8 +15,9 @@ ghost use Rattle.coordinator.specs.Opening as opening;
 
 use crate::coordinator::Coordinator;
 use crate::sessions::Sessions;
-use group_keys::{KeyBook, KeyRing, RingFault};
+use group_keys::{KeyBook, KeyRing};
 use joining_base::RandomValues;
+use node_rules::RingRefusal;
 use plc_base::{Eui, Grant, Keeper, Key, KeyIndex, Short};
 use plc_station::{OpenFault, Station};
 use std::alloc::Global;
@@ -52,7 +53,7 @@ fn open_book<K: Keeper + Drop>(
 
 // Stores the first ring at the station of a coordinator, whichever book it has, and reads the store again. The station's own `install` would ask
 // that it agrees with its keeper, and a store whose tables have gaps does not give that.
-fn store_first<K: Keeper + Drop>(station: &mut Station<K>, key: &Key) -> Result<(), RingFault>
+fn store_first<K: Keeper + Drop>(station: &mut Station<K>, key: &Key) -> Result<(), RingRefusal>
     requires running { IsSome station.old.memory }
     requires read { station.old.memory ≡ stations.if_read (station_of station.old.store.records) }
     requires empty { IfSome station.old.memory (λ l. is_some l.ring ≡ false) }
@@ -66,7 +67,7 @@ fn store_first<K: Keeper + Drop>(station: &mut Station<K>, key: &Key) -> Result<
     };
     let Ok(()) = ring.keep(station.keeper_mut(), Some(first_grant(key))) else {
         station.halt();
-        return Err(RingFault::Store);
+        return Err(RingRefusal::Store);
     };
     let Ok(()) = station.restart() else {
         unreachable!()
@@ -75,7 +76,7 @@ fn store_first<K: Keeper + Drop>(station: &mut Station<K>, key: &Key) -> Result<
 }
 
 // Installs the first ring at the station of a coordinator, whichever book it has, where it has none.
-fn begin<K: Keeper + Drop>(station: &mut Station<K>, key: &Key) -> Result<(), RingFault>
+fn begin<K: Keeper + Drop>(station: &mut Station<K>, key: &Key) -> Result<(), RingRefusal>
     requires running { IsSome station.old.memory }
     requires read { station.old.memory ≡ stations.if_read (station_of station.old.store.records) }
     ensures carries { (b : book.Book) → IfSome station.old.memory (λ l. Carries (state_in station.old [] [] b)

@@ -14,8 +14,8 @@ use Rattle.plc_base.specs.declared.key.Key.{Key}
 use Rattle.store_tables.proofs.SlotTables.{slice_get-set, slice_get-set_other}
 use Rattle.group_keys.specs.KeyBook as books
 use Rattle.group_keys.specs.KeyRing as ring
-use Rattle.group_keys.specs.declared.fault.RingFault.{RingFault}
-use Rattle.group_keys.specs.declared.fault.RingFault.TheVariants as ring_faults
+use Rattle.node_rules.specs.declared.refusal.RingRefusal.{RingRefusal}
+use Rattle.node_rules.specs.declared.refusal.RingRefusal.TheVariants as ring_faults
 use Rattle.line_events.specs.declared.event.Answer.{Answer}
 use Rattle.line_events.specs.declared.event.Answer.TheVariants as answers
 use Rattle.line_events.specs.declared.event.Event.{Event}
@@ -524,7 +524,7 @@ module _ (ciphers : Ciphers) (opens : OpensWhatItSeals ciphers) (fits : KeepsRan
   grant_home number x cn psk g ne hx hc role e later =
       let plan : Memory → Plan Memory (Result Granted CoordinatorRefusal) = λ m. coordinator_rules.depot m x.eui psk in
       let d : NodeStep (Result Granted CoordinatorRefusal) = workshop cn x.eui psk in
-      let p : NodeStep (Result (Unit {0}) RingFault) = acts x (Ok tt) (λ m. meters.provision m g) in
+      let p : NodeStep (Result (Unit {0}) RingRefusal) = acts x (Ok tt) (λ m. meters.provision m g) in
       let u : World = world_after ciphers (set_up w) 0 d in
       let fit = at_place NodeFits w.nodes number x hx ok.fits in
       let good = good_at 0 cn hc in

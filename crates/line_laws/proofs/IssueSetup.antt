@@ -27,7 +27,7 @@ use Rattle.node_rules.specs.Calls as calls
 use Rattle.node_rules.specs.Meters as meters
 use Rattle.node_rules.specs.Coordinators as coordinator_rules
 use Rattle.node_rules.specs.StoreReading.{first_grant}
-use Rattle.group_keys.specs.declared.fault.RingFault.TheVariants.{Store as RingStore}
+use Rattle.node_rules.specs.declared.refusal.RingRefusal.TheVariants.{Store as RingStore}
 use Rattle.node_rules.specs.Drafts.{choose, empty_draft, with_ring}
 use Rattle.node_rules.specs.MemoryDrafts.{with_station}
 use Rattle.line_events.specs.Events.{IsEvent}

@@ -13,7 +13,7 @@ use Rattle.plc_base.specs.declared.key.Rand.{Rand}
 use Rattle.plc_base.specs.Grant.{Granted}
 use Rattle.frame_counters.specs.PeerMarks as marks
 use Rattle.frame_counters.proofs.Tables.{room_new}
-use Rattle.group_keys.specs.declared.fault.RingFault.TheVariants.{Store as RingStore}
+use Rattle.node_rules.specs.declared.refusal.RingRefusal.TheVariants.{Store as RingStore}
 use Rattle.routing_set.specs.declared.rank.Rank.{Rank}
 use Rattle.routing_set.specs.RoutingSet as routing
 use Rattle.node_rules.specs.Accepted.{Accepted}

@@ -41,7 +41,7 @@ use Rattle.node_rules.specs.Meters as meters
 use Rattle.node_rules.specs.Coordinators as coordinator_rules
 use Rattle.node_rules.specs.StoreReading.{first_grant}
 use Rattle.line_rules.specs.Answers.{Reception, meter_reception, coordinator_reception, random_word, join_word, leave_word, sent_word, ordered_word, frame_word}
-use Rattle.group_keys.specs.declared.fault.RingFault.TheVariants.{Store as RingStore}
+use Rattle.node_rules.specs.declared.refusal.RingRefusal.TheVariants.{Store as RingStore}
 use Rattle.node_rules.specs.Drafts.{choose}
 use Rattle.node_rules.specs.MemoryDrafts.{with_station}
 use Rattle.line_events.specs.Events.{IsEvent}

@@ -16,7 +16,7 @@ use Rattle.plc_base.specs.Grant.{Granted}
 use Rattle.plc_base.specs.Keeper.{Records, Write}
 use Rattle.store_tables.proofs.SlotTables.{slice_get-set, slice_get-set_other}
 use Rattle.store_tables.proofs.StoreLemmas.{get-insert_other}
-use Rattle.group_keys.specs.declared.fault.RingFault.TheVariants as ring_faults
+use Rattle.node_rules.specs.declared.refusal.RingRefusal.TheVariants as ring_faults
 use Rattle.line_events.specs.declared.event.Answer.{Answer}
 use Rattle.line_events.specs.declared.event.Answer.TheVariants as answers
 use Rattle.line_events.specs.declared.event.Event.{Event}

@@ -266,12 +266,16 @@ module _ (l : StationMemory) (b : Beside) (y : Broadcast) where
 -- how a command ended, in the words of the broadcast that it was
 pub own_after : (sent : Result (Unit {0}) LocalRefusal) → local_answer broadcast_ends tt sent ≡ ended_by refusals.CounterSpent refusals.Store sent
 own_after (Ok u) = refl
+own_after (Err locals.Halted) = refl
+own_after (Err locals.NotJoined) = refl
 own_after (Err locals.CounterSpent) = refl
 own_after (Err locals.Store) = refl
 
 pub heard_reported : (y : Broadcast) (sent : Result (Unit {0}) LocalRefusal)
     → local_answer reach_ends (heard.Broadcast y.origin y.number y.octets) sent ≡ handed_up y (ended_by (Known CounterSpent) (Known PutFailed) sent)
 heard_reported y (Ok u) = refl
+heard_reported y (Err locals.Halted) = refl
+heard_reported y (Err locals.NotJoined) = refl
 heard_reported y (Err locals.CounterSpent) = refl
 heard_reported y (Err locals.Store) = refl
 

@@ -234,6 +234,8 @@ module _ {A : Type 0} (s : State StationMemory) (b : Beside) (halted : A) (plan 
 -- what is answered to it, by how a rule says that counters are spent, and that a write failed
 abbrev pub local_answer : {H E : Type 0} → Ends E → H → Result (Unit {0}) LocalRefusal → Result H E
 local_answer ends answer (Ok u) = Ok answer
+local_answer ends answer (Err locals.Halted) = Err ends.store
+local_answer ends answer (Err locals.NotJoined) = Err ends.store
 local_answer ends answer (Err locals.CounterSpent) = Err ends.spent
 local_answer ends answer (Err locals.Store) = Err ends.store
 

@@ -67,11 +67,15 @@ sent_ended heard sent dropped result is answers =
     by : (r : Result (Unit {0}) LocalRefusal)
         → local_answer reach_ends (path_heard heard) r ≡ answer_as path_heard (answer_as (λ _. heard) (ended_by (Known CounterSpent) (Known Store) r))
     by (Ok u) = refl
+    by (Err locals.Halted) = refl
+    by (Err locals.NotJoined) = refl
     by (Err locals.CounterSpent) = refl
     by (Err locals.Store) = refl
 
 pub ask_ended : (sent : Result (Unit {0}) LocalRefusal) → local_answer ask_ends tt sent ≡ ended_by asks.CounterSpent asks.Store sent
 ask_ended (Ok u) = refl
+ask_ended (Err locals.Halted) = refl
+ask_ended (Err locals.NotJoined) = refl
 ask_ended (Err locals.CounterSpent) = refl
 ask_ended (Err locals.Store) = refl
 

@@ -17,7 +17,7 @@ use Rattle.plc_base.specs.Grant.{Granted}
 use Rattle.plc_base.specs.Keeper.{Records, Write}
 use Rattle.store_tables.specs.Writes.{Written, write}
 use Rattle.store_tables.proofs.SlotTables.{slice_get-set_other}
-use Rattle.group_keys.specs.declared.fault.RingFault.{RingFault}
+use Rattle.node_rules.specs.declared.refusal.RingRefusal.{RingRefusal}
 use Rattle.node_rules.specs.declared.refusal.CoordinatorRefusal.{CoordinatorRefusal}
 use Rattle.node_rules.specs.declared.refusal.CoordinatorRefusal.TheVariants as orders
 use Rattle.node_rules.specs.declared.refusal.PresetFault.{PresetFault}
@@ -283,7 +283,7 @@ module _ (w : World) (number : ℕ) (x c : Node) (psk : Key) (may : MayDepot w n
       }
 
   -- the coordinator granted it, and the meter has it
-  pub was_joined : (new : World) (g : Granted) (answer : Result (Unit {0}) RingFault) (between nodes : List Node) (h : Happenings) → IsBounded w
+  pub was_joined : (new : World) (g : Granted) (answer : Result (Unit {0}) RingRefusal) (between nodes : List Node) (h : Happenings) → IsBounded w
       → w.events < MAX_EVENTS
       → Did granting w.nodes 0 (Ok g) nothing between
       → IfSome (slice_get between number) (λ y. Did (acts y (Ok tt) (λ m. meters.provision m g)) between number answer nothing nodes)
@@ -567,7 +567,8 @@ depot_not_granted {w} new {number} there address eui psk r nodes b takes above a
 
 pub depot_granted : {w : World} (new : World) {number found : ℕ} (there : IsThere w number found) (address : Option ℕ) (eui : Eui) (psk : Key)
     (r : Result Granted CoordinatorRefusal) (g : Granted)
-    (answer : Result (Unit {0}) RingFault) (between nodes : List Node) (h : Happenings) → IsBounded w → w.events < MAX_EVENTS → true ≡ takes_setup w → 1 ≤ found
+    (answer : Result (Unit {0}) RingRefusal) (between nodes : List Node) (h : Happenings) → IsBounded w → w.events < MAX_EVENTS → true ≡ takes_setup w
+    → 1 ≤ found
     → IfSome (slice_get w.nodes found) (λ x. address ≡ node_address x) → false ≡ is_some address
     → IfSome (slice_get w.nodes found) (λ x. eui ≡ x.eui) → IfSome (slice_get w.nodes found) (λ x. psk_of x ≡ Some psk) → AtFirst w eui psk r between → r ≡ Ok g
     → IfSome (slice_get between found) (λ y. Did (acts y (Ok tt) (λ m. meters.provision m g)) between found answer nothing nodes)

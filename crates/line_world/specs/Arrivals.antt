@@ -70,6 +70,8 @@ acknowledging_if x (Some reply) = acknowledging x reply
 -- whether no write failed by it
 abbrev pub is_stored : Result (Unit {0}) LocalRefusal → Bool
 is_stored (Ok u) = true
+is_stored (Err locals.Halted) = false
+is_stored (Err locals.NotJoined) = true
 is_stored (Err locals.CounterSpent) = true
 is_stored (Err locals.Store) = false
 

@@ -67,6 +67,8 @@ handed_up b (Err reason) = Err reason
 -- the answer to a command that was sent, in the words of another rule
 abbrev pub ended_by : {E : Type 0} → (spent store : E) → Result (Unit {0}) LocalRefusal → Result (Unit {0}) E
 ended_by spent store (Ok u) = Ok u
+ended_by spent store (Err locals.Halted) = Err store
+ended_by spent store (Err locals.NotJoined) = Err store
 ended_by spent store (Err locals.CounterSpent) = Err spent
 ended_by spent store (Err locals.Store) = Err store
 

@@ -195,8 +195,8 @@ fn is_stored(sent: &Result<(), LocalRefusal>) -> bool
 {
     match sent {
         Ok(()) => true,
-        Err(LocalRefusal::CounterSpent) => true,
-        Err(LocalRefusal::Store) => false,
+        Err(LocalRefusal::NotJoined | LocalRefusal::CounterSpent) => true,
+        Err(LocalRefusal::Halted | LocalRefusal::Store) => false,
     }
 }
 

@@ -1,8 +1,9 @@
 -- Which refusal of a call it was, as a number. The refusals of a call are numbered from 1, in the order in which they are declared; what drops a
--- frame that was accepted comes after what does not accept one.
+-- frame that was accepted comes after what does not accept one. Halted of the first two, and NotJoined, come last: a host, whose meter runs, never
+-- meets them.
 use Rattle.std.specs.Prelude.{ℕ}
-use Rattle.group_keys.specs.declared.fault.RingFault.{RingFault}
-use Rattle.group_keys.specs.declared.fault.RingFault.TheVariants as rings
+use Rattle.node_rules.specs.declared.refusal.RingRefusal.{RingRefusal}
+use Rattle.node_rules.specs.declared.refusal.RingRefusal.TheVariants as rings
 use Rattle.node_rules.specs.declared.refusal.PresetFault.{PresetFault}
 use Rattle.node_rules.specs.declared.refusal.PresetFault.TheVariants as presets
 use Rattle.node_rules.specs.declared.refusal.RandomFault.{RandomFault}
@@ -21,14 +22,17 @@ use Rattle.node_rules.specs.declared.refusal.Halted.{Halted}
 use Rattle.node_rules.specs.declared.refusal.Unheard.{Unheard}
 use Rattle.node_rules.specs.declared.refusal.Unheard.TheVariants as unheard
 
-abbrev pub ring_number : RingFault → ℕ
+abbrev pub ring_number : RingRefusal → ℕ
 ring_number rings.NotHeld = 1
 ring_number rings.Store = 2
+ring_number rings.Halted = 3
+ring_number rings.NotJoined = 4
 
 abbrev pub preset_number : PresetFault → ℕ
 preset_number presets.NotBetter = 1
 preset_number presets.RoutesFull = 2
 preset_number presets.Store = 3
+preset_number presets.Halted = 4
 
 abbrev pub random_number : RandomFault → ℕ
 random_number randoms.Halted = 1

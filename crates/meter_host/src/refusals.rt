@@ -3,14 +3,13 @@ ghost use Rattle.std.specs.Prelude.{◌≡◌, ℕ};
 ghost use Rattle.meter_host.specs.Refusals.{ring_number, preset_number, random_number, join_number, leave_number, send_number};
 ghost use Rattle.meter_host.specs.Refusals.{frame_number, dropped_number, unheard_number, halted_number};
 
-use group_keys::RingFault;
 use node_rules::{
     Dropped, FrameRefusal, Halted, JoinRefusal, LeaveRefusal, PresetFault, RandomFault,
-    SendRefusal, Unheard,
+    RingRefusal, SendRefusal, Unheard,
 };
 
 /// Why a call was refused. The refusals of a call are numbered from 1, in the order in which they are declared; what drops a frame that was accepted
-/// comes after what does not accept one.
+/// comes after what does not accept one. Halted of `RingRefusal` and `PresetFault`, and NotJoined, come last: a host, whose meter runs, never meets them.
 pub trait Refusal {
     // Its number.
     ghost number: { Self → ℕ };
@@ -20,13 +19,15 @@ pub trait Refusal {
         ensures { result ≡ number self.now };
 }
 
-impl Refusal for RingFault {
+impl Refusal for RingRefusal {
     ghost number = { ring_number };
 
     fn number(&self) -> u8 {
         match self {
-            RingFault::NotHeld => 1,
-            RingFault::Store => 2,
+            RingRefusal::NotHeld => 1,
+            RingRefusal::Store => 2,
+            RingRefusal::Halted => 3,
+            RingRefusal::NotJoined => 4,
         }
     }
 }
@@ -39,6 +40,7 @@ impl Refusal for PresetFault {
             PresetFault::NotBetter => 1,
             PresetFault::RoutesFull => 2,
             PresetFault::Store => 3,
+            PresetFault::Halted => 4,
         }
     }
 }

@@ -8,7 +8,7 @@ use Rattle.plc_base.specs.declared.out_frame.Out.{Out}
 use Rattle.plc_base.specs.declared.tags.TagList.{TagList}
 use Rattle.eap_psk.specs.Tags.{no_tags}
 use Rattle.store_tables.proofs.WritesLemmas.{wrote_none}
-use Rattle.group_keys.specs.declared.fault.RingFault.{RingFault}
+use Rattle.node_rules.specs.declared.refusal.RingRefusal.{RingRefusal}
 use Rattle.joining_messages.specs.declared.message.JoinBody.TheVariants as body
 use Rattle.node_rules.specs.declared.refusal.LeaveRefusal.{LeaveRefusal}
 use Rattle.node_rules.specs.declared.refusal.LeaveRefusal.TheVariants as leaving
@@ -110,7 +110,7 @@ joined_already x l agent now ring = rw ring refl
 -- # Leaving
 
 -- a station that left, as a meter says it
-abbrev pub left_as : Result (Unit {0}) RingFault → Result (Unit {0}) LeaveRefusal
+abbrev pub left_as : Result (Unit {0}) RingRefusal → Result (Unit {0}) LeaveRefusal
 left_as (Ok u) = Ok tt
 left_as (Err fault) = Err leaving.Store
 

@@ -11,7 +11,7 @@ use Rattle.plc_base.specs.declared.tags.PairTag.{PairTag}
 use Rattle.plc_base.specs.declared.out_frame.Out.{Out}
 use Rattle.store_tables.proofs.WritesLemmas.{wrote_none}
 use Rattle.group_keys.specs.KeyRing.{ring_write}
-use Rattle.group_keys.specs.declared.fault.RingFault.{RingFault}
+use Rattle.node_rules.specs.declared.refusal.RingRefusal.{RingRefusal}
 use Rattle.joining_messages.specs.declared.message.JoinMessage.{JoinMessage}
 use Rattle.joining_messages.specs.declared.message.JoinBody.TheVariants as body
 use Rattle.eap_psk.specs.Keys.{keys_of}
@@ -79,7 +79,7 @@ module _ (x y : MeterState) (l : StationMemory) (granted : Granted) (plain : Lis
       answer out known.counter.below
       w.wrote is w.eui (ap (option_map (memory_with y)) w.memory))
 
-  pub ring_fails : (reason : RingFault) → x.station.memory ≡ Some l → Agrees x.station
+  pub ring_fails : (reason : RingRefusal) → x.station.memory ≡ Some l → Agrees x.station
       → Carries x.station (calls.install l granted) (Err reason) nothing y.station → WithRing ≡ p
       → out ≡ record { frames = []; tags = record { made = []; opened = opened } } → Carries (node_of x) p (Err dropped.store) out (node_of y)
   ring_fails reason running agrees c plan is =

@@ -7,7 +7,7 @@ use Rattle.plc_base.specs.declared.key.Rand.{Rand}
 use Rattle.plc_base.specs.declared.out_frame.Out.{Out}
 use Rattle.store_tables.proofs.WritesLemmas.{wrote_none}
 use Rattle.group_keys.specs.KeyRing.{ring_write}
-use Rattle.group_keys.specs.declared.fault.RingFault.{RingFault}
+use Rattle.node_rules.specs.declared.refusal.RingRefusal.{RingRefusal}
 use Rattle.joining_messages.specs.declared.message.JoinMessage.{JoinMessage}
 use Rattle.joining_messages.specs.declared.message.JoinBody.TheVariants as body
 use Rattle.eap_psk.specs.Keys.{keys_of}
@@ -143,7 +143,7 @@ module _ (x : MeterState) (l : StationMemory) (packet : List ℕ) (now : ℕ) (p
           (takes_by_agent x l now peer (identifier_of packet) granted Fourth agent ∙ take_goes x l (ByAgent agent) packet now peer granted is free held fine)
           is_out)
 
-      pub agent_cut : (reason : RingFault) → Carries x.station (calls.install l granted) (Err reason) nothing u
+      pub agent_cut : (reason : RingRefusal) → Carries x.station (calls.install l granted) (Err reason) nothing u
           → out ≡ record { frames = []; tags = record { made = []; opened = (third_tags peer (identifier_of packet) granted).opened } }
           → Carries (node_of x) (meters.take (identity_of x) (memory_with x l) (ByAgent agent) packet now) (Err dropped.store) out (node_of (Taker u))
       agent_cut reason c is_out =
@@ -199,7 +199,7 @@ module _ (x : MeterState) (l : StationMemory) (packet : List ℕ) (now : ℕ) (p
           granted.address 0 (command_of Fourth) now (heard.Took (agreed_by peer)) out more e w.wrote (sym w.eui) refl room_then
           (at_some t.memory (λ k. Carries t (calls.send_command k 0 (command_of Fourth) now) (Err e) out u) Ringed w.memory sent) is_more)
 
-      pub ring_cut : (reason : RingFault) → Carries x.station (calls.install l granted) (Err reason) nothing u
+      pub ring_cut : (reason : RingRefusal) → Carries x.station (calls.install l granted) (Err reason) nothing u
           → more ≡ record { frames = []; tags = record { made = []; opened = (third_tags peer (identifier_of packet) granted).opened } }
           → Carries (node_of x) (meters.take (identity_of x) (memory_with x l) ByCommand packet now) (Err dropped.store) more (node_of (Taker u))
       ring_cut reason c is_more =

@@ -5,8 +5,8 @@ use Rattle.plc_base.specs.declared.key.Rand.{Rand}
 use Rattle.eap_psk.specs.Keys.{PairKeys}
 use Rattle.eap_psk.specs.Faults.{first_fault, third_fault}
 use Rattle.eap_psk.specs.declared.peer.Peer.{Peer}
-use Rattle.group_keys.specs.declared.fault.RingFault.{RingFault}
-use Rattle.group_keys.specs.declared.fault.RingFault.TheVariants as ring
+use Rattle.node_rules.specs.declared.refusal.RingRefusal.{RingRefusal}
+use Rattle.node_rules.specs.declared.refusal.RingRefusal.TheVariants as ring
 use Rattle.node_rules.specs.declared.heard.MeterHeard.{MeterHeard}
 use Rattle.node_rules.specs.declared.heard.MeterHeard.TheVariants as heard
 use Rattle.node_rules.specs.declared.refusal.Dropped.{Dropped}
@@ -21,13 +21,15 @@ use Rattle.node_rules.specs.Memory.{StationMemory, MeterSession}
 use Rattle.joining_base.specs.Reasons.{dropped_send}
 
 -- a key that the station seals with
-abbrev pub activated_as : Result (Unit {0}) RingFault → Result MeterHeard Dropped
+abbrev pub activated_as : Result (Unit {0}) RingRefusal → Result MeterHeard Dropped
 activated_as (Ok u) = Ok heard.Activated
 activated_as (Err ring.NotHeld) = Err drops.NotHeld
+activated_as (Err ring.Halted) = Err drops.Store
+activated_as (Err ring.NotJoined) = Err drops.Store
 activated_as (Err ring.Store) = Err drops.Store
 
 -- a station that left
-abbrev pub left_as : Result (Unit {0}) RingFault → Result MeterHeard Dropped
+abbrev pub left_as : Result (Unit {0}) RingRefusal → Result MeterHeard Dropped
 left_as (Ok u) = Ok heard.Left
 left_as (Err fault) = Err drops.Store
 

@@ -18,10 +18,9 @@ ghost use Rattle.meter_node.specs.Hearing as hearing;
 use crate::meter::Meter;
 use crate::session::SessionWay;
 use agent_node::goes_down;
-use group_keys::RingFault;
 use joining_base::{joining_command, push_down, read_message};
 use joining_messages::{JoinBody, JoinMessage};
-use node_rules::{Dropped, Heard, MeterHeard, Way};
+use node_rules::{Dropped, Heard, MeterHeard, RingRefusal, Way};
 use plc_base::{DatagramBuf, Keeper, KeyIndex, LinkCost, Out, Short};
 use plc_station::Accepted;
 
@@ -42,13 +41,15 @@ fn same_session_way(a: SessionWay, b: SessionWay) -> bool
 }
 
 // A key that the station seals with, as a meter says it.
-fn activated_as(done: Result<(), RingFault>) -> Result<MeterHeard<'static>, Dropped>
+fn activated_as(done: Result<(), RingRefusal>) -> Result<MeterHeard<'static>, Dropped>
     ensures { result ≡ hearing.activated_as done }
 {
     match done {
         Ok(()) => Ok(MeterHeard::Activated),
-        Err(RingFault::NotHeld) => Err(Dropped::NotHeld),
-        Err(RingFault::Store) => Err(Dropped::Store),
+        Err(RingRefusal::NotHeld) => Err(Dropped::NotHeld),
+        Err(RingRefusal::Halted | RingRefusal::NotJoined | RingRefusal::Store) => Err(
+            Dropped::Store,
+        ),
     }
 }
 

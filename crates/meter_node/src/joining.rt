@@ -4,16 +4,14 @@ ghost use Rattle.node_rules.specs.MemoryDrafts as drafts;
 ghost use Rattle.node_rules.specs.Meters as meters;
 ghost use Rattle.node_rules.specs.Carrying.{Carries, nothing};
 ghost use Rattle.node_rules.specs.Agreement.{Agrees};
-ghost use Rattle.plc_station.specs.Ready.{Ready};
 ghost use Rattle.meter_node.specs.MeterCalls.{MeterAfter};
 ghost use Rattle.meter_node.specs.MeterStates.{identity_of, node_of};
 
 use crate::meter::Meter;
 use crate::session::{Session, SessionWay};
-use group_keys::RingFault;
 use joining_base::push_up;
 use joining_messages::{JoinBody, JoinMessage};
-use node_rules::{JoinRefusal, LeaveRefusal, RandomFault};
+use node_rules::{JoinRefusal, LeaveRefusal, RandomFault, RingRefusal};
 use plc_base::{EapBuf, Grant, Keeper, Out, Rand, Short};
 
 impl<K: Keeper + Drop> Meter<K> {
@@ -43,13 +41,17 @@ impl<K: Keeper + Drop> Meter<K> {
         Ok(())
     }
 
-    /// Installs the grant of the workshop. Store, after which it is halted.
-    pub fn provision(&mut self, grant: &Grant) -> Result<(), RingFault>
-        requires ready { Ready self.old.station }
+    /// Installs the grant of the workshop. Halted, Store; after Store it is halted.
+    pub fn provision(&mut self, grant: &Grant) -> Result<(), RingRefusal>
+        requires agrees { Agrees self.old.station }
+        ensures halted { IfNone self.old.station.memory ((result ≡ Err RingRefusal.Halted) × (self.new ≡ self.old)) }
         ensures carries { IfSome (node_of self.old).memory (λ m.
             Carries (node_of self.old) (meters.provision m grant.now) result nothing (node_of self.new)) }
         ensures after { MeterAfter self.old self.new }
     {
+        if self.station.halted() {
+            return Err(RingRefusal::Halted);
+        }
         self.station.install(grant)
     }
 

@@ -32,8 +32,8 @@ use Rattle.node_rules.specs.MemoryDrafts.{with_station, in_memory, on_station}
 use Rattle.node_rules.specs.declared.refusal.SendRefusal.{SendRefusal}
 use Rattle.plc_base.specs.Faults.{◌then◌, ◌when◌}
 use Rattle.plc_base.specs.Grant.{Granted}
-use Rattle.group_keys.specs.declared.fault.RingFault.{RingFault}
-use Rattle.group_keys.specs.declared.fault.RingFault.TheVariants.{Store as RingStore}
+use Rattle.node_rules.specs.declared.refusal.RingRefusal.{RingRefusal}
+use Rattle.node_rules.specs.declared.refusal.RingRefusal.TheVariants.{Store as RingStore}
 use Rattle.node_rules.specs.declared.refusal.SendRefusal.TheVariants.{NotJoined, CounterSpent}
 use Rattle.node_rules.specs.States.{State}
 use Rattle.node_rules.specs.Carrying.{Carries, given}
@@ -421,7 +421,7 @@ pub installed : (s t : State StationMemory) (l : StationMemory) (g : Granted) (u
 installed s t l g u out below c =
     carried_whole s t (ring_alone l (Some g)) u RingStore out refl (subst (λ (p : Ringing). Carries s p (Ok u) out t) (ring_plan l (Some g) below) c)
 
-pub not_installed : (s t : State StationMemory) (l : StationMemory) (g : Granted) (reason : RingFault) (out : Out) → l.counter.next ≤ l.counter.limit
+pub not_installed : (s t : State StationMemory) (l : StationMemory) (g : Granted) (reason : RingRefusal) (out : Out) → l.counter.next ≤ l.counter.limit
     → Carries s (install l g) (Err reason) out t → CutOff s (ring_alone l (Some g)) out t
 not_installed s t l g reason out below c =
     carried_cut s t (ring_alone l (Some g)) tt reason out refl (subst (λ (p : Ringing). Carries s p (Err reason) out t) (ring_plan l (Some g) below) c)

@@ -6,8 +6,8 @@ use Rattle.plc_base.specs.declared.key.Rand.{Rand}
 use Rattle.plc_base.specs.Grant.{Granted}
 use Rattle.plc_base.specs.Keeper.{Write}
 use Rattle.frame_counters.specs.SendCounter as counter
-use Rattle.group_keys.specs.declared.fault.RingFault.{RingFault}
-use Rattle.group_keys.specs.declared.fault.RingFault.TheVariants as ring_faults
+use Rattle.node_rules.specs.declared.refusal.RingRefusal.{RingRefusal}
+use Rattle.node_rules.specs.declared.refusal.RingRefusal.TheVariants as ring_faults
 use Rattle.group_keys.specs.KeyBook as book
 use Rattle.group_keys.specs.KeyRing as ring
 use Rattle.routing_set.specs.OwnNumber as own_number
@@ -147,7 +147,7 @@ unfolding choose resting
 begin_puts R m granted h = by_test (is_some m.station.ring)
   where
     by_test : (t : Bool) → AreOf R m.book m.station (choose t (resting m (Ok tt) (Err ring_faults.Store))
-        (within (λ l. with_station l m) (λ (r : Result (Unit {0}) RingFault). r) (calls.install m.station granted))).puts
+        (within (λ l. with_station l m) (λ (r : Result (Unit {0}) RingRefusal). r) (calls.install m.station granted))).puts
     by_test true = All-nil (PutOf R m.book m.station)
     by_test false = ring_puts R m.book m.station (Some granted) (empty_draft m.station) h (begun_puts R m.book m.station m.station)
 

@@ -6,8 +6,8 @@ use Rattle.plc_base.specs.declared.key.Key.{Key}
 use Rattle.plc_base.specs.Grant.{Granted}
 use Rattle.store_tables.specs.Writes.{puts_of}
 use Rattle.frame_counters.specs.SendCounter as counter
-use Rattle.group_keys.specs.declared.fault.RingFault.{RingFault}
-use Rattle.group_keys.specs.declared.fault.RingFault.TheVariants as ring_faults
+use Rattle.node_rules.specs.declared.refusal.RingRefusal.{RingRefusal}
+use Rattle.node_rules.specs.declared.refusal.RingRefusal.TheVariants as ring_faults
 use Rattle.group_keys.specs.KeyRing as ring
 use Rattle.routing_set.specs.declared.rank.Rank.{Rank}
 use Rattle.routing_set.specs.RoutingSet as routing
@@ -120,10 +120,10 @@ tick now l = record l {
 
 -- what a node does about its ring
 abbrev pub Ringing : Type 0
-Ringing = Plan StationMemory (Result (Unit {0}) RingFault)
+Ringing = Plan StationMemory (Result (Unit {0}) RingRefusal)
 
 -- a ring takes no counter, so one word serves for both
-abbrev pub ringing_ends : Ends RingFault
+abbrev pub ringing_ends : Ends RingRefusal
 ringing_ends = record { spent = ring_faults.Store; store = ring_faults.Store }
 
 -- a doing that sends nothing, carried to its end

@@ -9,8 +9,8 @@ use Rattle.plc_base.specs.declared.key.Key.{Key}
 use Rattle.plc_base.specs.declared.key.Rand.{Rand}
 use Rattle.plc_base.specs.Grant.{Granted}
 use Rattle.store_tables.specs.Writes.{puts_of}
-use Rattle.group_keys.specs.declared.fault.RingFault.{RingFault}
-use Rattle.group_keys.specs.declared.fault.RingFault.TheVariants.{Store}
+use Rattle.node_rules.specs.declared.refusal.RingRefusal.{RingRefusal}
+use Rattle.node_rules.specs.declared.refusal.RingRefusal.TheVariants.{Store}
 use Rattle.group_keys.specs.declared.key_book.BookEntry.{BookEntry}
 use Rattle.group_keys.specs.KeyRing as ring
 use Rattle.group_keys.specs.KeyBook as book
@@ -246,7 +246,7 @@ hear_coordinator own m got cost note now =
 -- # Beginning
 
 -- a coordinator without a ring installs this grant
-abbrev pub begin : Memory → Granted → Plan Memory (Result (Unit {0}) RingFault)
+abbrev pub begin : Memory → Granted → Plan Memory (Result (Unit {0}) RingRefusal)
 begin m granted =
     choose (is_some m.station.ring) (resting m (Ok tt) (Err Store))
     (within (λ l. with_station l m) (λ r. r) (calls.install m.station granted))

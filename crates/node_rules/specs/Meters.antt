@@ -6,7 +6,7 @@ use Rattle.plc_base.specs.declared.address.Eui.{Eui}
 use Rattle.plc_base.specs.declared.key.Key.{Key}
 use Rattle.plc_base.specs.declared.key.Rand.{Rand}
 use Rattle.plc_base.specs.Grant.{Granted}
-use Rattle.group_keys.specs.declared.fault.RingFault.{RingFault}
+use Rattle.node_rules.specs.declared.refusal.RingRefusal.{RingRefusal}
 use Rattle.joining_messages.specs.declared.message.JoinMessage.{JoinMessage}
 use Rattle.joining_messages.specs.declared.message.JoinBody.{JoinBody}
 use Rattle.joining_messages.specs.declared.message.JoinBody.TheVariants as body
@@ -293,7 +293,7 @@ abbrev pub leave : Memory → Plan Memory (Result (Unit {0}) LeaveRefusal)
 leave m = choose (is_joined m) (sealing in_memory leaving_ends (leaves m) tt) (refused leaving_ends m leaving.NotJoined)
 
 -- the grant of the workshop is installed
-abbrev pub provision : Memory → Granted → Plan Memory (Result (Unit {0}) RingFault)
+abbrev pub provision : Memory → Granted → Plan Memory (Result (Unit {0}) RingRefusal)
 provision m granted = within (λ l. with_station l m) (λ r. r) (calls.install m.station granted)
 
 -- a session ends whose time has passed

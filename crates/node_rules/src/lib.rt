@@ -45,7 +45,7 @@ pub use octet_laws::{
 };
 pub use refusal::{
     CoordinatorRefusal, Dropped, FrameRefusal, Halted, JoinRefusal, LeaveRefusal, LocalRefusal,
-    PresetFault, RandomFault, SendRefusal, Unheard, heard_or_why,
+    PresetFault, RandomFault, RingRefusal, SendRefusal, Unheard, heard_or_why,
 };
 pub use session_time::SESSION_TIME;
 pub use shown::{Shown, ShownPeer, ShownPeers, ShownRef, ShownRoute, ShownRoutes};

@@ -187,10 +187,16 @@ pub enum SendRefusal {
     Store,
 }
 
-/// Why a command for the neighbours is not sent. They are tried in this order.
+/// Why a command for the neighbours is not sent. They are tried in this order; nothing has changed after each of them but Store.
 #[derive(Clone, Copy, Debug, PartialEq, Eq, Error)]
 pub enum LocalRefusal {
-    /// No frame counter is left. Nothing has changed.
+    /// The node is halted.
+    #[error("the node is halted")]
+    Halted,
+    /// The node has no ring.
+    #[error("the node is not joined")]
+    NotJoined,
+    /// No frame counter is left.
     #[error("the frame counters are spent")]
     CounterSpent,
     /// A store write failed. The node is halted, and nothing is sent.
@@ -198,9 +204,29 @@ pub enum LocalRefusal {
     Store,
 }
 
-/// Why a setting of the workshop is not made.
+/// Why a node does not change its ring. They are tried in this order; nothing has changed after each of them but Store.
+#[derive(Clone, Copy, Debug, PartialEq, Eq, Error)]
+pub enum RingRefusal {
+    /// The node is halted.
+    #[error("the node is halted")]
+    Halted,
+    /// The node has no ring.
+    #[error("the node is not joined")]
+    NotJoined,
+    /// No key is held at the index.
+    #[error("no key is held at this index")]
+    NotHeld,
+    /// A store write failed. The node is halted.
+    #[error("a store write failed")]
+    Store,
+}
+
+/// Why a setting of the workshop is not made. They are tried in this order; nothing has changed after each of them but Store.
 #[derive(Clone, Copy, Debug, PartialEq, Eq, Error)]
 pub enum PresetFault {
+    /// The node is halted.
+    #[error("the node is halted")]
+    Halted,
     /// The rank does not beat the one that is held.
     #[error("the rank does not beat the one that is held")]
     NotBetter,

@@ -18,6 +18,11 @@ if_some (Some m) P h = h m refl
 pub at_some : {M : Type 0} (o : Option M) (P : M → Type 0) (m : M) → o ≡ Some m → IfSome o P → P m
 at_some {M} o P m e h = subst (λ (k : Option M). IfSome k P) e h
 
+-- what follows from what holds of a memory, if there is one
+pub met_some : {M : Type 0} (o : Option M) (P Q : M → Type 0) → IfSome o P → IfSome o (λ m. P m → Q m) → IfSome o Q
+met_some None P Q h then = tt
+met_some (Some m) P Q h then = then h
+
 -- what holds of a node that is not halted
 pub on_memory : {M : Type 0} (halted : Bool) (m : M) (P : M → Type 0) → (unless_halted halted m ≡ Some m → P m) → IfSome (unless_halted halted m) P
 on_memory true m P h = tt

@@ -10,7 +10,7 @@ use std::marker::Model;
 /// A frame that a station accepted. `accept` alone makes one, nothing copies it, and `hear` takes it by value: so it is heard once at most.
 ///
 /// The octets of its unit stay in the buffer that was lent to `accept`, which is free again when the frame and what was heard of it are gone.
-#[derive(Drop)]
+#[derive(Debug, Drop)]
 pub struct Accepted<'a> {
     way: Path,
     unit: &'a FrameBuf,

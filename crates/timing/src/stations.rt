@@ -51,9 +51,6 @@ impl Node {
             active: KeyIndex::first(),
             keys: [Some(KEY), None],
         };
-        if node.station.halted() {
-            bail!("halted");
-        }
         if node.station.install(&grant).is_err() {
             bail!("not joined");
         }

@@ -9,8 +9,7 @@ ghost use Rattle.line_rules.specs.Steps.{identity, psk_of};
 ghost use Rattle.line_world.specs.NodeOutcomes.{Did};
 
 use crate::nodes::Nodes;
-use group_keys::RingFault;
-use node_rules::{JoinRefusal, LeaveRefusal, RandomFault};
+use node_rules::{JoinRefusal, LeaveRefusal, RandomFault, RingRefusal};
 use plc_base::{Grant, Out, Rand, Short};
 
 impl Nodes {
@@ -31,7 +30,7 @@ impl Nodes {
     }
 
     /// A meter installs the grant of the workshop. A halted one stays as it is.
-    pub fn provision(&mut self, number: usize, grant: &Grant) -> Result<(), RingFault>
+    pub fn provision(&mut self, number: usize, grant: &Grant) -> Result<(), RingRefusal>
         requires meter { 1 ≤ number }
         requires there { number < length self.old }
         ensures { IfSome (slice_get self.old number) (λ x. Did

@@ -82,7 +82,7 @@ pub(crate) fn ended_by<E: Copy + Drop>(
     match sent {
         Ok(()) => Ok(()),
         Err(LocalRefusal::CounterSpent) => Err(spent),
-        Err(LocalRefusal::Store) => Err(store),
+        Err(LocalRefusal::Halted | LocalRefusal::NotJoined | LocalRefusal::Store) => Err(store),
     }
 }
 

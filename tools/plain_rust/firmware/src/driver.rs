@@ -73,7 +73,6 @@ impl Driver {
 
     /// Takes the grant that a workshop gives, in place of joining over the air.
     pub fn provision(&mut self, grant: &Grant) -> Result<(), Trouble> {
-        self.is_running()?;
         self.meter.provision(grant).map_err(|_| self.trouble())
     }
 
@@ -91,7 +90,6 @@ impl Driver {
 
     /// Notes that the node of this address is a neighbour.
     pub fn has_neighbour(&mut self, address: Short, cost: LinkCost, now: u64) -> Result<(), Trouble> {
-        self.is_running()?;
         self.meter.station().preset_near(address, cost, now).map_err(|_| self.trouble())
     }
 
@@ -145,11 +143,6 @@ impl Driver {
     pub fn reopen(&mut self, flash: Flash) -> Result<(), Trouble> {
         *self.meter.station().keeper_mut() = flash;
         self.meter.restart().map_err(|_| Trouble::Halted)
-    }
-
-    // What several calls ask for, since their contract does.
-    fn is_running(&mut self) -> Result<(), Trouble> {
-        if self.meter.station().halted() { Err(Trouble::Halted) } else { Ok(()) }
     }
 
     fn trouble(&mut self) -> Trouble {

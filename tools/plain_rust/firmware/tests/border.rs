@@ -3,7 +3,7 @@
 use coordinator::Coordinator;
 use firmware::Flash;
 use meter_node::Meter;
-use node_rules::Came;
+use node_rules::{Came, LocalRefusal, PresetFault, RingRefusal};
 use plc_base::{DatagramBuf, Eui, FrameBuf, Grant, Key, KeyIndex, LinkCost, MOST_FRAMES, Out, Rand, Short};
 use plc_station::{Buffers, Station};
 use rattle_std::alloc::Global;
@@ -125,18 +125,9 @@ fn coordinator_hears(mut node: Coordinator<Flash>) {
 }
 
 #[test]
-fn a_halted_node_stops() {
+fn a_halted_node_stops_where_it_hears() {
     stops("plc_station: hear: ready", || station_hears(halted().station(), &from_the_coordinator()));
-    stops("plc_station: send_local: ready", || halted().station().send_local(3, None, &[1], &mut out()));
-    stops("plc_station: preset_counter: ready", || halted().station().preset_counter(1));
-    stops("plc_station: preset_number: ready", || halted().station().preset_number(1));
-    stops("plc_station: preset_near: ready", || halted().station().preset_near(address(1), cost(), 0));
-    stops("plc_station: install: ready", || halted().station().install(&grant()));
-    stops("plc_station: put_key: ready", || halted().station().put_key(KeyIndex::first(), &key()));
-    stops("plc_station: activate: ready", || halted().station().activate(KeyIndex::first()));
-    stops("plc_station: leave: ready", || halted().station().leave());
     stops("meter_node: hear: ready", || meter_hears(halted(), &from_the_coordinator()));
-    stops("meter_node: provision: ready", || halted().provision(&grant()));
     stops("coordinator: hear: ready", || {
         let mut node = coordinator();
         node.station().halt();
@@ -145,9 +136,25 @@ fn a_halted_node_stops() {
 }
 
 #[test]
-fn a_node_without_an_address_stops() {
-    stops("plc_station: send_local: joined", || meter().station().send_local(3, None, &[1], &mut out()));
-    stops("plc_station: put_key: joined", || meter().station().put_key(KeyIndex::first(), &key()));
+fn a_halted_node_says_so() {
+    let mut node = halted();
+    assert_eq!(node.provision(&grant()), Err(RingRefusal::Halted));
+    let station = node.station();
+    assert_eq!(station.install(&grant()), Err(RingRefusal::Halted));
+    assert_eq!(station.put_key(KeyIndex::first(), &key()), Err(RingRefusal::Halted));
+    assert_eq!(station.activate(KeyIndex::first()), Err(RingRefusal::Halted));
+    assert_eq!(station.leave(), Err(RingRefusal::Halted));
+    assert_eq!(station.preset_counter(1), Err(PresetFault::Halted));
+    assert_eq!(station.preset_number(1), Err(PresetFault::Halted));
+    assert_eq!(station.preset_near(address(1), cost(), 0), Err(PresetFault::Halted));
+    assert_eq!(station.send_local(3, None, &[1], &mut out()), Err(LocalRefusal::Halted));
+}
+
+#[test]
+fn a_node_without_an_address_says_so() {
+    let mut node = meter();
+    assert_eq!(node.station().put_key(KeyIndex::first(), &key()), Err(RingRefusal::NotJoined));
+    assert_eq!(node.station().send_local(3, None, &[1], &mut out()), Err(LocalRefusal::NotJoined));
     stops("meter_node: hear: came", || meter_hears(meter(), &up()));
 }
 

@@ -8,22 +8,17 @@ use Rattle.plc_station.proofs.Carrying.{at_some}
 use Rattle.coordinator.proofs.OtherWords.{done_as, failed_as}
 use Rattle.coordinator.specs.CoordinatorStates.{memory_in}
 use Rattle.coordinator.proofs.Storing.{on_parts, by_some, carried_by}
-use Rattle.coordinator.proofs.Parts.{part_runs, part_agrees, part_joined, part_home, part_book}
+use Rattle.coordinator.proofs.Parts.{part_runs, part_agrees, part_ring, part_home, part_book}
 use Rattle.coordinator.proofs.Within.{within_carried, ring_plan, home_holds, ring_keeps, ring_home, keyed_home}
 use Rattle.coordinator.proofs.coordinator.Coordinator.draw.Goals as goal
 
-pub put_key-requires-clause-ready : goal.put_key-requires-clause-ready
-put_key-requires-clause-ready g c =
+pub put_key-requires : goal.put_key-requires
+put_key-requires g c =
     record {
-      running = part_runs c.self.inside.station.memory _ (rw (← c.self.view_is) at c.requires.ready.running);
       agrees =
           part_agrees c.self.inside.randoms c.self.inside.sessions c.self.inside.book _ c.self.inside.station.memory
           (rw (← c.self.view_is) at c.requires.ready.holds);
     }
-
-pub put_key-requires-clause-joined : goal.put_key-requires-clause-joined
-put_key-requires-clause-joined g c =
-    part_joined c.self.inside.randoms c.self.inside.sessions c.self.inside.book _ c.self.inside.station.memory (rw (← c.self.view_is) at c.requires.ready.holds)
 
 pub returns-in_default-clause-carries : goal.returns-in_default-clause-carries
 returns-in_default-clause-carries g c =
@@ -32,7 +27,8 @@ returns-in_default-clause-carries g c =
     (with_key l.ring c.args.index c.args.key.now))
     (within_carried (memory_in c.self.inside.randoms c.self.inside.sessions c.self.inside.book) (λ a. a) c.self.inside.station _ _ _ nothing
     (failed_as ringing_ends orders _ _ (with_ring (with_key l.ring c.args.index c.args.key.now) (empty_draft l)) _ tt nothing
-    (at_some c.self.inside.station.memory _ l running c.in_default.ensures.carries)))))
+    (at_some c.self.inside.station.memory _ l running c.in_default.ensures.carries (part_ring c.self.inside.randoms c.self.inside.sessions c.self.inside.book _
+    c.self.inside.station.memory l running (rw (← c.self.view_is) at c.requires.ready.holds)))))))
 
 pub returns-clause-carries : goal.returns-clause-carries
 returns-clause-carries g c =
@@ -41,13 +37,16 @@ returns-clause-carries g c =
     (with_key l.ring c.args.index c.args.key.now))
     (within_carried (memory_in c.self.inside.randoms c.self.inside.sessions c.self.inside.book) (λ a. a) c.self.inside.station _ _ _ nothing
     (done_as ringing_ends orders _ _ (with_ring (with_key l.ring c.args.index c.args.key.now) (empty_draft l)) _ tt nothing
-    (at_some c.self.inside.station.memory _ l running c.in-Ok.ensures.carries)))))
+    (at_some c.self.inside.station.memory _ l running c.in-Ok.ensures.carries (part_ring c.self.inside.randoms c.self.inside.sessions c.self.inside.book _
+    c.self.inside.station.memory l running (rw (← c.self.view_is) at c.requires.ready.holds)))))))
 
 pub returns-in_default-clause-holds : goal.returns-in_default-clause-holds
 returns-in_default-clause-holds g c =
     by_some c.self.inside.station.memory _ (part_runs c.self.inside.station.memory _ (rw (← c.self.view_is) at c.requires.ready.running)) (λ l running.
     home_holds c.self.inside.station _ _ (memory_in c.self.inside.randoms c.self.inside.sessions c.self.inside.book) _ nothing c.self.inside.book (λ n. refl)
-    (λ n. refl) (at_some c.self.inside.station.memory _ l running c.in_default.ensures.carries)
+    (λ n. refl) (at_some c.self.inside.station.memory _ l running c.in_default.ensures.carries
+    (part_ring c.self.inside.randoms c.self.inside.sessions c.self.inside.book _
+    c.self.inside.station.memory l running (rw (← c.self.view_is) at c.requires.ready.holds)))
     (ring_keeps ringing_ends tt l (with_key l.ring c.args.index c.args.key.now)
     (keyed_home l.ring c.args.index c.args.key.now (part_home c.self.inside.randoms c.self.inside.sessions c.self.inside.book _ c.self.inside.station.memory l
     running (rw (← c.self.view_is) at c.requires.ready.holds)))) (part_book c.self.inside.randoms c.self.inside.sessions c.self.inside.book _
@@ -58,7 +57,9 @@ pub returns-clause-holds : goal.returns-clause-holds
 returns-clause-holds g c =
     by_some c.self.inside.station.memory _ (part_runs c.self.inside.station.memory _ (rw (← c.self.view_is) at c.requires.ready.running)) (λ l running.
     home_holds c.self.inside.station _ _ (memory_in c.self.inside.randoms c.self.inside.sessions c.self.inside.book) _ nothing c.self.inside.book (λ n. refl)
-    (λ n. refl) (at_some c.self.inside.station.memory _ l running c.in-Ok.ensures.carries)
+    (λ n. refl) (at_some c.self.inside.station.memory _ l running c.in-Ok.ensures.carries
+    (part_ring c.self.inside.randoms c.self.inside.sessions c.self.inside.book _
+    c.self.inside.station.memory l running (rw (← c.self.view_is) at c.requires.ready.holds)))
     (ring_keeps ringing_ends tt l (with_key l.ring c.args.index c.args.key.now)
     (keyed_home l.ring c.args.index c.args.key.now (part_home c.self.inside.randoms c.self.inside.sessions c.self.inside.book _ c.self.inside.station.memory l
     running (rw (← c.self.view_is) at c.requires.ready.holds)))) (part_book c.self.inside.randoms c.self.inside.sessions c.self.inside.book _

@@ -1,7 +1,7 @@
 use Rattle.std.proofs.Common.{Ok, Err, [], sym, subst}
 use Rattle.std.specs.Prelude.{IsSome}
 use Rattle.plc_base.specs.Keeper.{Store}
-use Rattle.group_keys.specs.declared.fault.RingFault.TheVariants as rings
+use Rattle.node_rules.specs.declared.refusal.RingRefusal.TheVariants as rings
 use Rattle.node_rules.specs.Memory.{StationMemory, Memory}
 use Rattle.node_rules.specs.States.{State}
 use Rattle.coordinator.specs.CoordinatorStates.{state_in}

@@ -18,12 +18,9 @@ use Rattle.coordinator.proofs.coordinator.Coordinator.set_active.Goals as goal
 pub activate-requires : goal.activate-requires
 activate-requires g c =
     record {
-      ready = record {
-        running = part_runs c.self.inside.station.memory _ (rw (← c.self.view_is) at c.requires.ready.running);
-        agrees =
-            part_agrees c.self.inside.randoms c.self.inside.sessions c.self.inside.book _ c.self.inside.station.memory
-            (rw (← c.self.view_is) at c.requires.ready.holds);
-      };
+      agrees =
+          part_agrees c.self.inside.randoms c.self.inside.sessions c.self.inside.book _ c.self.inside.station.memory
+          (rw (← c.self.view_is) at c.requires.ready.holds);
     }
 
 pub returns-in_default-clause-carries : goal.returns-in_default-clause-carries

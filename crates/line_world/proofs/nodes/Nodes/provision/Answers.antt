@@ -18,10 +18,7 @@ provision-requires c =
     c.requires.meter
     c.requires.there c.index_mut-meter.ensures.value in
     record {
-      ready = record {
-        running = c.if-halted.ensures;
-        agrees = subst (λ (k : State StationMemory). Agrees k) (sym c.station.ensures.value) (meter_agrees c.index_mut-meter.result.now (sound_at at));
-      };
+      agrees = subst (λ (k : State StationMemory). Agrees k) (sym c.station.ensures.value) (meter_agrees c.index_mut-meter.result.now (sound_at at));
     }
 
 pub returns-then-halted : goal.returns-then-halted

@@ -1,52 +1,24 @@
-use Rattle.std.proofs.Common.{refl}
-use Rattle.std.specs.Prelude.{IfSome}
-use Rattle.store_tables.specs.Writes.{puts_of}
-use Rattle.store_tables.proofs.WritesLemmas.{wrote_one}
-use Rattle.group_keys.specs.KeyRing.{ring_write, with_key}
-use Rattle.node_rules.specs.Drafts.{empty_draft, with_ring}
-use Rattle.node_rules.specs.Calls.{ringing_ends}
-use Rattle.node_rules.specs.Agreement.{AgreesWith}
+use Rattle.std.proofs.Common.{inl, refl}
 use Rattle.plc_station.specs.StationReading.{station_in}
-use Rattle.node_rules.specs.States.{unless_halted}
-use Rattle.plc_station.proofs.Carrying.{at_some, on_memory, of_some, lines_are}
-use Rattle.plc_station.proofs.Agreeing.{agrees_ringed}
-use Rattle.plc_station.proofs.Ending.{settled, stopped}
+use Rattle.plc_station.proofs.Carrying.{on_memory, at_some}
+use Rattle.plc_station.proofs.Setting.{no_ring, a_ring}
 use Rattle.plc_station.proofs.station.Station.put_key.Goals as goal
 
+pub returns-in_default-clause-unjoined : goal.returns-in_default-clause-unjoined
+returns-in_default-clause-unjoined g c = rw (← c.self.view_is) (on_memory c.self.inside.halted _ _ (λ running none. (refl, refl)))
+
 pub returns-in_default-clause-carries : goal.returns-in_default-clause-carries
-unfolding with_ring empty_draft
 returns-in_default-clause-carries g c =
-    rw (← c.self.view_is) (on_memory c.self.inside.halted _ _ (λ running. stopped ringing_ends _ _
-    (with_ring (with_key c.self.inside.parts.ring c.args.index c.args.key.now) (empty_draft (station_in c.self.inside.parts c.self.inside.bodies)))
-    (with_ring (with_key c.self.inside.parts.ring c.args.index c.args.key.now) (empty_draft (station_in c.self.inside.parts c.self.inside.bodies))) tt _ refl
-    (wrote_one _ _ (ring_write (with_key c.self.inside.parts.ring c.args.index c.args.key.now)) _ c.in_default.ensures.store) refl refl))
+    rw (← c.self.view_is) (on_memory c.self.inside.halted _ _ (λ running joined. no_ring c.self.inside.parts.ring c.in_default.ensures joined))
 
 pub returns-in_default-clause-either : goal.returns-in_default-clause-either
-returns-in_default-clause-either g c = rw (← c.self.view_is) (on_memory c.self.inside.halted _ _ (λ running. c.in_default.ensures.either))
+returns-in_default-clause-either g c = rw (← c.self.view_is) (on_memory c.self.inside.halted _ _ (λ running. inl refl))
+
+pub returns-clause-unjoined : goal.returns-clause-unjoined
+returns-clause-unjoined g c =
+    rw (← c.self.view_is) (on_memory c.self.inside.halted _ _ (λ running none. a_ring c.self.inside.parts.ring _ c.in-Some.ensures none))
 
 pub returns-clause-carries : goal.returns-clause-carries
-unfolding with_ring empty_draft
 returns-clause-carries g c =
-    let before = rw (← c.self.view_is) at c.requires.ready.agrees in
-    rw (← c.self.view_is) (on_memory c.self.inside.halted _ _
-    (λ running. settled ringing_ends _ _ (puts_of (ring_write (with_key c.self.inside.parts.ring c.args.index c.args.key.now)))
-    (record (station_in c.self.inside.parts c.self.inside.bodies) { ring = with_key c.self.inside.parts.ring c.args.index c.args.key.now })
-    (with_ring (with_key c.self.inside.parts.ring c.args.index c.args.key.now) (empty_draft (station_in c.self.inside.parts c.self.inside.bodies))) tt _ refl
-    (wrote_one _ _ (ring_write (with_key c.self.inside.parts.ring c.args.index c.args.key.now)) _ c.in-Ok.ensures.store)
-    (at_some _ (λ l. AgreesWith l (g.K.Keeper.store c.self.inside.keeper).records) (station_in c.self.inside.parts c.self.inside.bodies) running
-    before).counter.below refl
-    (lines_are _ _ _ _ c.in-Ok.ensures.ring refl refl refl refl refl refl refl)))
-
-pub returns-clause-after : goal.returns-clause-after
-returns-clause-after g c = record {
-  agrees =
-      let before : IfSome (unless_halted c.self.inside.halted (station_in c.self.inside.parts c.self.inside.bodies))
-      (λ l. AgreesWith l (g.K.Keeper.store c.self.inside.keeper).records) = rw (← c.self.view_is) at c.requires.ready.agrees in
-      let running = rw (← c.self.view_is) at c.requires.ready.running in
-      agrees_ringed (station_in c.self.inside.parts c.self.inside.bodies) _ _ _ (of_some _ _ _ running before) c.in-Ok.ensures.kept
-      c.in-Ok.ensures.elsewhere;
-  replied = rw (← c.self.view_is) refl;
-}
-
-pub returns-clause-either : goal.returns-clause-either
-returns-clause-either g c = rw (← c.self.view_is) (on_memory c.self.inside.halted _ _ (λ running. c.in-Ok.ensures.either))
+    rw (← c.self.view_is) (on_memory c.self.inside.halted _ _ (λ running joined.
+    at_some _ _ (station_in c.self.inside.parts c.self.inside.bodies) running (rw (← c.self.view_is) at c.keep_key.ensures.carries)))

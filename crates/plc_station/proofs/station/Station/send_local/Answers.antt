@@ -1,23 +1,21 @@
-use Rattle.std.proofs.Common.{arith}
-use Rattle.node_rules.specs.declared.refusal.LocalRefusal.TheVariants.{CounterSpent}
-use Rattle.node_rules.specs.Neighbours.{local_ends}
+use Rattle.std.proofs.Common.{refl}
 use Rattle.plc_station.specs.StationReading.{station_in}
 use Rattle.plc_station.proofs.Carrying.{on_memory, at_some}
-use Rattle.plc_station.proofs.Ways.{too_few, enough}
-use Rattle.plc_station.proofs.Beside.{after_by, refusal_after}
-use Rattle.plc_station.proofs.Locals.{local_spent, local_sent}
+use Rattle.plc_station.proofs.Setting.{no_ring, a_ring}
 use Rattle.plc_station.proofs.station.Station.send_local.Goals as goal
 
-pub returns-then-left-lt1-clause-carries : goal.returns-then-left-lt1-clause-carries
-returns-then-left-lt1-clause-carries g c =
-    rw (← c.self.view_is) (on_memory c.self.inside.halted _ _
-    (λ running. refusal_after local_ends _ (station_in c.self.inside.parts c.self.inside.bodies) CounterSpent _ _ running
-    (local_spent (station_in c.self.inside.parts c.self.inside.bodies) c.args.code c.args.to c.args.body.now
-    (too_few _ _ 1 c.left-left.ensures (omega (arith, c.if-left-lt1.true))))))
+pub returns-in_default-clause-unjoined : goal.returns-in_default-clause-unjoined
+returns-in_default-clause-unjoined g c = rw (← c.self.view_is) (on_memory c.self.inside.halted _ _ (λ running none. (refl, refl, refl)))
+
+pub returns-in_default-clause-carries : goal.returns-in_default-clause-carries
+returns-in_default-clause-carries g c =
+    rw (← c.self.view_is) (on_memory c.self.inside.halted _ _ (λ running joined. no_ring c.self.inside.parts.ring c.in_default.ensures joined))
+
+pub returns-clause-unjoined : goal.returns-clause-unjoined
+returns-clause-unjoined g c =
+    rw (← c.self.view_is) (on_memory c.self.inside.halted _ _ (λ running none. a_ring c.self.inside.parts.ring _ c.in-Some.ensures none))
 
 pub returns-clause-carries : goal.returns-clause-carries
 returns-clause-carries g c =
-    rw (← c.self.view_is) (on_memory c.self.inside.halted _ _ (λ running. after_by _ _ _ _ _ _ _
-    (local_sent (station_in c.self.inside.parts c.self.inside.bodies) c.args.code c.args.to _ c.args.body.now c.destination.ensures
-    (enough _ _ 1 c.left-left.ensures (omega (arith, c.if-left-lt1.false))))
-    (at_some _ _ (station_in c.self.inside.parts c.self.inside.bodies) running (rw (← c.self.view_is) at c.local_goes.ensures.carries))))
+    rw (← c.self.view_is) (on_memory c.self.inside.halted _ _ (λ running joined.
+    at_some _ _ (station_in c.self.inside.parts c.self.inside.bodies) running (rw (← c.self.view_is) at c.local_from.ensures.carries)))

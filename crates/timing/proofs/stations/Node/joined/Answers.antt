@@ -1,4 +1,4 @@
-use Rattle.std.proofs.Common.{rules, ap}
+use Rattle.std.proofs.Common.{ap}
 use Rattle.plc_base.specs.Keeper.{Store}
 use Rattle.store_tables.proofs.Opening.{empty_gapless}
 use Rattle.frame_counters.specs.PeerMarks.{peers}
@@ -8,10 +8,7 @@ use Rattle.timing.proofs.stations.Node.joined.Goals as goal
 pub install-requires : goal.install-requires
 install-requires c =
     record {
-      ready = record {
-        running = search rules;
-        agrees =
-            c.in-Ok.ensures.agrees (empty_gapless peers _ (ap (λ (s : Store). s.records) c.in_ok-keeper.ensures))
-            (empty_gapless ranks _ (ap (λ (s : Store). s.records) c.in_ok-keeper.ensures));
-      };
+      agrees =
+          c.in-Ok.ensures.agrees (empty_gapless peers _ (ap (λ (s : Store). s.records) c.in_ok-keeper.ensures))
+          (empty_gapless ranks _ (ap (λ (s : Store). s.records) c.in_ok-keeper.ensures));
     }

@@ -12,7 +12,7 @@ use Rattle.node_rules.specs.States.{unless_halted}
 use Rattle.plc_station.proofs.Carrying.{at_some, on_memory, of_some, lines_are}
 use Rattle.plc_station.proofs.Agreeing.{agrees_ringed, agrees_routed, agrees_holding}
 use Rattle.plc_station.proofs.Ending.{settled, stopped}
-use Rattle.plc_station.proofs.station.Station.leave.Goals as goal
+use Rattle.plc_station.proofs.station.Station.drop_ring.Goals as goal
 
 pub returns-in_default-clause-carries : goal.returns-in_default-clause-carries
 unfolding with_ring empty_draft

@@ -1,9 +1,9 @@
 use Rattle.std.proofs.Common.{true, false, refl}
-use Rattle.frame_counters.specs.SendCounter.{limit_write}
+use Rattle.routing_set.specs.OwnNumber.{limit_write}
 use Rattle.store_tables.proofs.WritesLemmas.{wrote_one}
 use Rattle.node_rules.specs.Plans.{resting}
 use Rattle.plc_station.proofs.Carrying.{on_memory, lines_are}
-use Rattle.plc_station.proofs.station.Station.preset_counter.Goals as goal
+use Rattle.plc_station.proofs.station.Station.keep_number.Goals as goal
 
 pub returns-in_default-clause-carries : goal.returns-in_default-clause-carries
 unfolding resting
@@ -20,5 +20,5 @@ returns-clause-carries g c =
       wrote = wrote_one _ _ (limit_write c.args.value) _ c.in-Ok.ensures.store;
       answer_is = refl;
       out_is = refl;
-      new_is = lines_are _ _ _ _ refl c.in-Ok.ensures.counter refl refl refl refl refl refl;
+      new_is = lines_are _ _ _ _ refl refl refl refl c.in-Ok.ensures.numbering refl refl refl;
     }))

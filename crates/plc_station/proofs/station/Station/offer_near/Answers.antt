@@ -6,7 +6,7 @@ use Rattle.plc_station.specs.StationReading.{station_in}
 use Rattle.plc_station.proofs.Carrying.{on_memory, at_some}
 use Rattle.plc_station.proofs.Ending.{refusal, carried_by}
 use Rattle.plc_station.proofs.Setting.{near_worse, near_full, near_kept}
-use Rattle.plc_station.proofs.station.Station.preset_near.Goals as goal
+use Rattle.plc_station.proofs.station.Station.offer_near.Goals as goal
 
 pub returns-then-not-is_better-clause-carries : goal.returns-then-not-is_better-clause-carries
 returns-then-not-is_better-clause-carries g c =

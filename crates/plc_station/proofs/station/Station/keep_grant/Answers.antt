@@ -11,7 +11,7 @@ use Rattle.node_rules.specs.States.{unless_halted}
 use Rattle.plc_station.proofs.Carrying.{at_some, on_memory, of_some, lines_are}
 use Rattle.plc_station.proofs.Agreeing.{agrees_ringed}
 use Rattle.plc_station.proofs.Ending.{settled, stopped}
-use Rattle.plc_station.proofs.station.Station.install.Goals as goal
+use Rattle.plc_station.proofs.station.Station.keep_grant.Goals as goal
 
 pub returns-in_default-clause-carries : goal.returns-in_default-clause-carries
 unfolding with_ring empty_draft
