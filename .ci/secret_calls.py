@@ -121,14 +121,14 @@ pub extern "C" fn call_eax_open(key: &[u8], nonce: &[u8], header: &[u8], text: &
 JOINING = """//! The calls of EAP-PSK. Each makes its end anew from the names and the random values of a session, so that between two calls
 //! the packet alone is passed on. What is answered is the length of the packet that was written, or 0 for a fault.
 use eap_psk::{Peer, PskKeys, Server};
-use plc_base::{EapBuf, Ended, Eui, Grant, Key, KeyIndex, Rand, Short, TagList, octets_at};
+use plc_base::{EapBuf, Ended, Eui, Grant, Key, KeyIndex, RandomOctets, Short, TagList, octets_at};
 
 #[derive(Clone, Copy)]
 struct Ends {
     eui: Eui,
     id_s: Eui,
-    rand_s: Rand,
-    rand_p: Rand,
+    rand_s: RandomOctets,
+    rand_p: RandomOctets,
 }
 
 // Two names and two random values.
@@ -136,8 +136,8 @@ fn ends_of(octets: &[u8]) -> Result<Ends, Ended> {
     Ok(Ends {
         eui: Eui(octets_at(octets, 0)?),
         id_s: Eui(octets_at(octets, 8)?),
-        rand_s: Rand(octets_at(octets, 16)?),
-        rand_p: Rand(octets_at(octets, 32)?),
+        rand_s: RandomOctets(octets_at(octets, 16)?),
+        rand_p: RandomOctets(octets_at(octets, 32)?),
     })
 }
 

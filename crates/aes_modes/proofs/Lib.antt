@@ -1,6 +1,6 @@
 pub mod LookUps
 pub mod Rounds
-pub mod Mixing
+pub mod MixedColumns
 pub mod Same
 pub mod StandardFacts
 pub mod Texts
@@ -14,6 +14,6 @@ pub mod CipherOctets
 pub mod Lanes
 pub mod Words
 pub mod SlicedRounds
-pub mod Packing
+pub mod PackedBlocks
 pub mod SlicedSchedule
 pub mod Beside

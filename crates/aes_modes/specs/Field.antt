@@ -15,7 +15,7 @@ product_of_bits (suc n) a b = bit_xor (b % 2 * a) (product_of_bits n (times_x a)
 unfoldable pub product : ℕ → ℕ → ℕ
 product a b = product_of_bits 8 a b
 
--- the element below n whose product with a is 1, or 0 where there is none
+-- the element below n whose product with a is 1, or 0 if there is none
 abbrev pub inverse_below : ℕ → ℕ → ℕ
 inverse_below zero a = 0
 inverse_below (suc n) a = elim (product a n == 1) [ true ↦ n | false ↦ inverse_below n a ]

@@ -1,1 +1,1 @@
-pub mod Relaying
+pub mod JoiningRelay

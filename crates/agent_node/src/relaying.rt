@@ -1,7 +1,7 @@
 //! Joining messages on their way through an agent.
 ghost use Rattle.std.specs.Prelude.{◌≡◌, [], true, false, OnOk, OnErr, MatchResult};
 ghost use Rattle.joining_messages.specs.Messages.{IsMessage};
-ghost use Rattle.agent_node.specs.Relaying.{goes_up, goes_down, command_up, frame_down};
+ghost use Rattle.agent_node.specs.JoiningRelay.{goes_up, goes_down, command_up, frame_down};
 
 use joining_messages::{JoinBody, JoinMessage, write_join};
 use mac_frames::{MacHead, write_header};

@@ -37,7 +37,7 @@ after g = (pcg32 g).1
 unfoldable pub below : ℕ → Lcg → ℕ
 below n g = word g * n / 2 ^ 32
 
--- whether that happens which has a chance of so many ten-thousandths
+-- whether that happens which has a chance of this many ten-thousandths
 unfoldable pub happens : ℕ → Lcg → Bool
 happens chance g = ltb (below 10000 g) chance
 

@@ -24,7 +24,7 @@ impl<T> Clone for Place<T> {
 
 impl<T> Copy for Place<T> {}
 
-/// So many places for values, one after another. `filled` says which hold one; an empty place keeps in `items` what no one reads.
+/// This many places for values, one after another. `filled` says which hold one; an empty place keeps in `items` what no one reads.
 pub struct Cells<T> {
     pub(crate) base: *mut T,
     pub(crate) count: usize,
@@ -40,7 +40,7 @@ impl<T> Model for Cells<T> {
     ghost also_shares = { λ c _ κ. lent T.row c.base c.count c.items c.filled κ };
 }
 
-/// The right to free the block of so many places.
+/// The right to free the block of this many places.
 pub struct Deed<T, A: Allocator> {
     pub(crate) base: *mut T,
     pub(crate) count: usize,

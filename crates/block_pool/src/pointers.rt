@@ -50,7 +50,7 @@ impl<T> Cells<T> {
     }
 }
 
-/// Empty places for so many values.
+/// Empty places for this many values.
 pub(crate) fn allocate<T, A: Allocator>(
     alloc: &A,
     count: usize,

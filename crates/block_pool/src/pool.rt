@@ -66,7 +66,7 @@ impl Model for Pool {
 }
 
 impl Pool {
-    /// A pool of so many free blocks, 1 to 1,024, and no chains. It takes all memory that the pool ever has.
+    /// A pool of this many free blocks, 1 to 1,024, and no chains. It takes all memory that the pool ever has.
     pub fn new(alloc: Global, blocks: u16) -> Result<Pool, AllocError>
         requires { (1 ≤ blocks) × (blocks ≤ 1024) }
         ensures empty { IfOk result (λ p. (p.free ≡ blocks) × (p.chains ≡ map.empty)) }
@@ -100,7 +100,7 @@ impl Pool {
         self.count
     }
 
-    /// A new chain of so many zeros, 1 to 1,280.
+    /// A new chain of this many zeros, 1 to 1,280.
     ///
     /// PoolFull exactly where fewer blocks are free than `octets / 64`, rounded up. The pool is then as it was.
     pub fn reserve(&mut self, octets: u16) -> Result<Chain, PoolFull>

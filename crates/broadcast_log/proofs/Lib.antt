@@ -1,4 +1,4 @@
 pub mod Runs
-pub mod Leading
+pub mod LogPuts
 pub mod Spellings
-pub mod Reopening
+pub mod ReopenedLogs

@@ -13,7 +13,7 @@ use Rattle.plc_base.proofs.NumbersOfOctets.{below}
 use Rattle.std.proofs.lemmas.List.Elements.{All-drop}
 use Rattle.broadcast_log.specs.declared.broadcast.Broadcast.{Broadcast}
 use Rattle.broadcast_log.specs.Grammar.{IsBroadcast, Spells, spelling, is_body, has_length, hops_stand, origin_stands, sequence_stands}
-use Rattle.broadcast_log.specs.Reading.{fields_in, broadcast_in}
+use Rattle.broadcast_log.specs.Reader.{fields_in, broadcast_in}
 use Rattle.broadcast_log.specs.Laws.{BroadcastsAreRead, ReadBroadcastsAreSpelled}
 
 -- # What is spelled is read

@@ -9,7 +9,7 @@ use Rattle.store_tables.specs.Numberings.{EachAbove}
 use Rattle.store_tables.specs.AdmittedNumbers.{Admitted, EachOnce}
 use Rattle.broadcast_log.specs.declared.broadcast.Broadcast.{Broadcast}
 use Rattle.broadcast_log.specs.Grammar.{Spells}
-use Rattle.broadcast_log.specs.Reading.{broadcast_in}
+use Rattle.broadcast_log.specs.Reader.{broadcast_in}
 use Rattle.broadcast_log.specs.NextNumber.{is_spent, number_put}
 use Rattle.broadcast_log.specs.OriginMarks.{marks, room_for, keep_write}
 use Rattle.broadcast_log.specs.Log.{Log, AgreesWith, numbered_log, admitted_log}

@@ -1,5 +1,5 @@
 pub mod Grammar
-pub mod Reading
+pub mod Reader
 pub mod NextNumber
 pub mod OriginMarks
 pub mod Log

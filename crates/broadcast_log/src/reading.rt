@@ -2,7 +2,7 @@
 ghost use Rattle.std.specs.Prelude.{◌≡◌, ◌↔◌, ◌<◌, length, IsSome, IsTrue, IfSome, Some};
 ghost use Rattle.broadcast_log.specs.declared.broadcast.Broadcast.{Broadcast};
 ghost use Rattle.broadcast_log.specs.Grammar.{Spells, is_body, has_length, hops_stand, origin_stands, sequence_stands};
-ghost use Rattle.broadcast_log.specs.Reading.{broadcast_in, fields_in};
+ghost use Rattle.broadcast_log.specs.Reader.{broadcast_in, fields_in};
 ghost use Rattle.plc_base.specs.Faults.{ReadsWhen};
 ghost use Rattle.plc_base.specs.Fields.{octet, two, four};
 

@@ -5,7 +5,7 @@ use Rattle.std.specs.Option.{option_map}
 use Rattle.plc_base.specs.Keeper.{Store, Stores, OutsideStays}
 use Rattle.plc_base.specs.declared.keeper.BadStore.{BadStore}
 use Rattle.plc_base.specs.declared.address.Eui.{Eui}
-use Rattle.plc_base.specs.declared.key.Rand.{Rand}
+use Rattle.plc_base.specs.declared.key.RandomOctets.{RandomOctets}
 use Rattle.plc_base.specs.declared.key.Key.{Key}
 use Rattle.plc_base.specs.Grant.{Granted}
 use Rattle.store_tables.specs.Writes.{Wrote}
@@ -23,18 +23,18 @@ use Rattle.node_rules.specs.Plans.{Plan, resting, within}
 use Rattle.node_rules.specs.Drafts.{empty_draft, with_ring, choose, sealing}
 use Rattle.node_rules.specs.Calls.{ringing_ends, install}
 use Rattle.node_rules.specs.Coordinators.{begin}
-use Rattle.node_rules.specs.StoreReading.{station_of, reading, remembering, first_grant}
+use Rattle.node_rules.specs.RestartStates.{station_of, reading, remembering, first_grant}
 use Rattle.node_rules.specs.States.{State}
 use Rattle.node_rules.specs.Agreement.{AgreesWith}
-use Rattle.node_rules.specs.Carrying.{Carries, nothing}
-use Rattle.plc_station.specs.StationReading as stations
-use Rattle.plc_station.proofs.Agreeing.{agrees_ringed}
-use Rattle.plc_station.proofs.Carrying.{if_some, at_some, resting_carried}
+use Rattle.node_rules.specs.CarriedPlans.{Carries, nothing}
+use Rattle.plc_station.specs.StationViews as stations
+use Rattle.plc_station.proofs.Agreement.{agrees_ringed}
+use Rattle.plc_station.proofs.CarriedPlans.{if_some, at_some, resting_carried}
 use Rattle.coordinator.specs.CoordinatorStates.{memory_in, state_in}
 use Rattle.coordinator.specs.CoordinatorAgreement.{CoordinatorAgreesWith}
-use Rattle.coordinator.specs.Opening.{Begins, halted_state}
-use Rattle.coordinator.proofs.Storing.{stored, unstored, carried_by}
-use Rattle.coordinator.proofs.Rereading.{read_ring, read_below, read_again}
+use Rattle.coordinator.specs.CoordinatorStart.{Begins, halted_state}
+use Rattle.coordinator.proofs.StoredChanges.{stored, unstored, carried_by}
+use Rattle.coordinator.proofs.RingReads.{read_ring, read_below, read_again}
 
 not_both : {A E : Type 0} (o : Result A E) (x : E) (a : A) → o ≡ Err x → o ≡ Ok a → ⊥
 not_both (Ok k) x a e f = absurd (cc)
@@ -136,7 +136,7 @@ module _ (s : State StationMemory) (l : StationMemory) (running : s.memory ≡ S
         → o ≡ stations.read_answer (station_of left.records) → o ≡ Err bad → ⊥
     store_reads r is kept apart o bad answer e = not_both o bad tt e (answer ∙ ap stations.read_answer (reads r is kept apart))
 
-    module _ (randoms : List Rand) (sessions : List CoordinatorSession) (b : book.Book) (new : State StationMemory) (reply : Option Reply) where
+    module _ (randoms : List RandomOctets) (sessions : List CoordinatorSession) (b : book.Book) (new : State StationMemory) (reply : Option Reply) where
       -- it was stored, and the store was read again
       pub first_stored : is_some l.ring ≡ false → Stores before (ring.ring_write (Some x)) true left → (r : ring.Ring) → r ≡ Some x
           → ring.AgreesWith r left.records

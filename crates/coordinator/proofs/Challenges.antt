@@ -5,7 +5,7 @@ use Rattle.std.specs.Option.{option_map, option_map_or}
 use Rattle.plc_base.specs.Keeper.{Store}
 use Rattle.store_tables.specs.Writes.{Wrote}
 use Rattle.plc_base.specs.declared.address.Eui.{Eui}
-use Rattle.plc_base.specs.declared.key.Rand.{Rand}
+use Rattle.plc_base.specs.declared.key.RandomOctets.{RandomOctets}
 use Rattle.plc_base.specs.declared.out_frame.Out.{Out}
 use Rattle.store_tables.proofs.WritesLemmas.{wrote_none}
 use Rattle.group_keys.specs.KeyBook as book
@@ -17,19 +17,19 @@ use Rattle.node_rules.specs.declared.refusal.CoordinatorRefusal.{CoordinatorRefu
 use Rattle.node_rules.specs.declared.refusal.CoordinatorRefusal.TheVariants.{NotAllowed, SessionsFull, NoRandom}
 use Rattle.node_rules.specs.Memory.{StationMemory, Memory, CoordinatorSession, Command, address_of}
 use Rattle.node_rules.specs.MemoryDrafts.{in_memory, on_station, with_memory_by, is_commanded, oldest, without_oldest}
-use Rattle.node_rules.specs.Joining.{message, command_of, first_packet, server_for}
+use Rattle.node_rules.specs.JoiningPackets.{message, command_of, first_packet, server_for}
 use Rattle.node_rules.specs.Calls.{commands, command_frames}
 use Rattle.node_rules.specs.Drafts.{Draft, empty_draft, refused, sealing, checked}
 use Rattle.node_rules.specs.Coordinators.{orders, lacking, with_session, sessions_full, allowed_address, challenge, challenge_by}
 use Rattle.node_rules.specs.States.{State}
-use Rattle.node_rules.specs.Carrying.{Carries}
-use Rattle.node_rules.specs.Composing.{begun, HasRoom}
-use Rattle.node_rules.proofs.Composing.{command_plan, command_units, room_seals, room_refuses, carries_behind}
+use Rattle.node_rules.specs.CarriedPlans.{Carries}
+use Rattle.node_rules.specs.ComposedPlans.{begun, HasRoom}
+use Rattle.node_rules.proofs.ComposedPlans.{command_plan, command_units, room_seals, room_refuses, carries_behind}
 use Rattle.coordinator.specs.CoordinatorStates.{memory_in, state_in}
 use Rattle.coordinator.specs.CoordinatorAgreement.{CoordinatorAgreesWith, CoordinatorAgrees}
 use Rattle.coordinator.specs.Tables.{placed}
 use Rattle.coordinator.specs.MeshCommands.{command_sent, sent_command, lacks, RoomFor}
-use Rattle.coordinator.proofs.Storing.{carried_by}
+use Rattle.coordinator.proofs.StoredChanges.{carried_by}
 
 -- # The plan, by what is tested
 
@@ -46,7 +46,7 @@ module _ (own : Eui) (m : Memory) (eui : Eui) (now : ℕ) where
   unfolding checked
   no_random to e f v = rw (← e, ← f, ← v) refl
 
-  pub challenges : (to : ℕ) (value : Rand) → Some to ≡ allowed_address m eui → false ≡ sessions_full m eui → Some value ≡ oldest m
+  pub challenges : (to : ℕ) (value : RandomOctets) → Some to ≡ allowed_address m eui → false ≡ sessions_full m eui → Some value ≡ oldest m
       → challenge_by own m to now (server_for eui own value) ≡ challenge own m eui now
   unfolding checked
   challenges to value e f v = rw (← e, ← f, ← v) refl
@@ -113,11 +113,11 @@ module _ (own : Eui) (m : Memory) (to now : ℕ) (server : Server) where
 
 -- # The session in the memory
 
-some_value : (xs : List Rand) → IsSome (slice_get xs 0) → 1 ≤ length xs
+some_value : (xs : List RandomOctets) → IsSome (slice_get xs 0) → 1 ≤ length xs
 some_value [] there = absurd (cc)
 some_value (x ∷ xs) there = omega arith
 
-module _ (s : State StationMemory) (randoms after : List Rand) (sessions next : List CoordinatorSession) (b : book.Book) where
+module _ (s : State StationMemory) (randoms after : List RandomOctets) (sessions next : List CoordinatorSession) (b : book.Book) where
   pub began : (session : CoordinatorSession) (l : StationMemory) → s.memory ≡ Some l → after ≡ drop 1 randoms → next ≡ placed session sessions
       → state_in s after next b ≡ record (state_in s randoms sessions b)
       { memory = Some (with_session session (without_oldest (memory_in randoms sessions b l))) }

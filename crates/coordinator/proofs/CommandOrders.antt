@@ -13,11 +13,11 @@ use Rattle.node_rules.specs.Plans.{Plan, within, resting}
 use Rattle.node_rules.specs.Drafts.{Draft, Lack, OfRoom, OfNumbers, alone, empty_draft, sets_out, lack, is_awaited, counters_left, refused, sealing, sealed}
 use Rattle.node_rules.specs.Drafts.{checked, waits, seeks_once, body_goes, goes, with_own_number}
 use Rattle.node_rules.specs.Calls.{sending_ends, lacking, how, send_command, command_from}
-use Rattle.node_rules.specs.Joining.{command_of}
+use Rattle.node_rules.specs.JoiningPackets.{command_of}
 use Rattle.node_rules.specs.Coordinators as rules
 use Rattle.node_rules.specs.States.{State}
-use Rattle.node_rules.specs.Carrying.{Carries}
-use Rattle.coordinator.specs.Ordering.{order_answer}
+use Rattle.node_rules.specs.CarriedPlans.{Carries}
+use Rattle.coordinator.specs.OrderAnswers.{order_answer}
 use Rattle.coordinator.proofs.Within.{KeepsHome, counter_below, number_below, append_below}
 
 -- # The plan of the order is that of the command

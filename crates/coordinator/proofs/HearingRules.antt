@@ -10,7 +10,7 @@ use Rattle.store_tables.proofs.WritesLemmas.{wrote_none}
 use Rattle.group_keys.specs.KeyBook as book
 use Rattle.joining_messages.specs.declared.message.JoinMessage.{JoinMessage}
 use Rattle.joining_messages.specs.declared.message.JoinBody.TheVariants as body
-use Rattle.joining_messages.specs.Reading.{join_in}
+use Rattle.joining_messages.specs.Reader.{join_in}
 use Rattle.node_rules.specs.Accepted.{Accepted}
 use Rattle.node_rules.specs.declared.heard.Heard.{Heard}
 use Rattle.node_rules.specs.declared.heard.Heard.TheVariants.{Up, Held, Relayed, Answered, Learned, Broken, Reported, Joining, Local}
@@ -23,15 +23,15 @@ use Rattle.node_rules.specs.Memory.{StationMemory, Memory}
 use Rattle.node_rules.specs.Plans.{Plan, resting}
 use Rattle.node_rules.specs.Replies.{reply_among, reply_sent}
 use Rattle.node_rules.specs.Drafts.{refused, choose}
-use Rattle.node_rules.specs.Hearing.{dropped, hear}
+use Rattle.node_rules.specs.HearingRules.{dropped, hear}
 use Rattle.node_rules.specs.MemoryDrafts.{Unread, unread}
 use Rattle.node_rules.specs.Coordinators as rules
 use Rattle.node_rules.specs.States.{State}
-use Rattle.node_rules.specs.Carrying.{Carries, given, nothing}
-use Rattle.node_rules.proofs.Composing.{carries_behind}
+use Rattle.node_rules.specs.CarriedPlans.{Carries, given, nothing}
+use Rattle.node_rules.proofs.ComposedPlans.{carries_behind}
 use Rattle.node_rules.proofs.Unread.{hear_hands_on}
 use Rattle.node_rules.proofs.Refusals.{drops as drops_cleanly}
-use Rattle.plc_station.proofs.Carrying.{at_some}
+use Rattle.plc_station.proofs.CarriedPlans.{at_some}
 use Rattle.coordinator.specs.CoordinatorStates.{CoordinatorState, memory_in, node_of, identity_of}
 use Rattle.coordinator.proofs.Within.{within_carried}
 

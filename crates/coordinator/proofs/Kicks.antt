@@ -14,22 +14,22 @@ use Rattle.node_rules.specs.declared.refusal.CoordinatorRefusal.{CoordinatorRefu
 use Rattle.node_rules.specs.declared.refusal.CoordinatorRefusal.TheVariants.{NotAllowed, Store as Failed}
 use Rattle.node_rules.specs.Memory.{StationMemory, Memory, Load, Command, address_of, next_hop}
 use Rattle.node_rules.specs.MemoryDrafts.{in_memory, on_station, with_memory_by, is_commanded}
-use Rattle.node_rules.specs.Joining.{message, command_of}
+use Rattle.node_rules.specs.JoiningPackets.{message, command_of}
 use Rattle.node_rules.specs.Calls.{commands}
 use Rattle.node_rules.specs.Drafts.{Draft, empty_draft, refused, sealing, is_awaited, body_goes, waits, seeks_once, goes, with_own_number}
 use Rattle.node_rules.specs.Coordinators.{orders, allowed_entry, with_book_entry, kick, kick_by}
 use Rattle.node_rules.specs.States.{State}
-use Rattle.node_rules.specs.Carrying.{Carries, nothing}
-use Rattle.node_rules.specs.Composing.{behind, command_alone}
-use Rattle.node_rules.proofs.Composing.{command_plan, carries_behind, carries_stopped}
-use Rattle.plc_station.proofs.Carrying.{at_some}
+use Rattle.node_rules.specs.CarriedPlans.{Carries, nothing}
+use Rattle.node_rules.specs.ComposedPlans.{behind, command_alone}
+use Rattle.node_rules.proofs.ComposedPlans.{command_plan, carries_behind, carries_stopped}
+use Rattle.plc_station.proofs.CarriedPlans.{at_some}
 use Rattle.coordinator.specs.CoordinatorAgreement.{CoordinatorAgreesWith}
 use Rattle.coordinator.specs.DraftsCarriedOut.{Does}
 use Rattle.coordinator.specs.MeshCommands.{sent_command, reaches, RoomFor}
-use Rattle.coordinator.specs.Kicking.{shut_out, silently}
-use Rattle.coordinator.proofs.Storing.{stored, unstored, carried_by}
-use Rattle.coordinator.proofs.Entering.{IsQuiet, below_limit}
-use Rattle.coordinator.proofs.Reaching.{reached_room}
+use Rattle.coordinator.specs.Kicks.{shut_out, silently}
+use Rattle.coordinator.proofs.StoredChanges.{stored, unstored, carried_by}
+use Rattle.coordinator.proofs.BookEntries.{IsQuiet, below_limit}
+use Rattle.coordinator.proofs.CommandRoutes.{reached_room}
 
 -- # The entry that is found
 

@@ -7,14 +7,14 @@ use Rattle.store_tables.proofs.SlotTables.{found}
 use Rattle.mesh_header.specs.declared.unit.Mesh.{Mesh as MeshHeader}
 use Rattle.mesh_header.specs.declared.unit.Unit.{Unit as MeshUnit}
 use Rattle.mesh_header.specs.declared.unit.Unit.TheVariants as units
-use Rattle.mesh_header.specs.Reading.{unit_in}
+use Rattle.mesh_header.specs.Reader.{unit_in}
 use Rattle.loadng_messages.specs.declared.message.Message.{Message}
 use Rattle.loadng_messages.specs.declared.message.Message.TheVariants.{Rreq, Rrep, Rerr}
-use Rattle.loadng_messages.specs.Reading.{message_in}
+use Rattle.loadng_messages.specs.Reader.{message_in}
 use Rattle.routing_set.specs.declared.entry.RoutingEntry.{RoutingEntry}
 use Rattle.routing_set.specs.declared.rank.Rank.{Rank}
 use Rattle.routing_set.specs.RoutingSet as routing
-use Rattle.fragment_buffers.specs.Taking as pieces
+use Rattle.fragment_buffers.specs.PieceIntake as pieces
 use Rattle.node_rules.specs.Accepted.{Accepted}
 use Rattle.node_rules.specs.declared.heard.Path.{Path}
 use Rattle.node_rules.specs.declared.heard.Path.TheVariants as paths
@@ -25,9 +25,10 @@ use Rattle.node_rules.specs.Memory.{StationMemory, address_of, next_hop}
 use Rattle.node_rules.specs.Plans.{resting}
 use Rattle.node_rules.specs.Drafts.{Draft, alone, empty_draft, with_rank, with_own_number, with_routing_by, goes, leave, refused, sealing, sealed, checked}
 use Rattle.node_rules.specs.Drafts.{choose}
-use Rattle.node_rules.specs.Hearing.{Hearing, dropped, drop_it, hear_request, hear_reply_for, hear_reply, hear_error, pass_error_on, loses, forward_by, forward}
-use Rattle.node_rules.specs.Hearing.{report_by, gathered, hear_message, hear_message_in, hear_command, hear_over_mesh, hear_sealed, hear_plain, is_joining}
-use Rattle.node_rules.specs.Hearing.{hear_unit, hear_unit_in, hear}
+use Rattle.node_rules.specs.HearingRules.{Hearing, dropped, drop_it, hear_request, hear_reply_for, hear_reply, hear_error, pass_error_on, loses, forward_by}
+use Rattle.node_rules.specs.HearingRules.{forward}
+use Rattle.node_rules.specs.HearingRules.{report_by, gathered, hear_message, hear_message_in, hear_command, hear_over_mesh, hear_sealed, hear_plain, is_joining}
+use Rattle.node_rules.specs.HearingRules.{hear_unit, hear_unit_in, hear}
 use Rattle.coordinator.proofs.Within.{AreBelow, KeepsHome, append_below, number_below, counter_below}
 
 -- the plan keeps the address, and puts below the book

@@ -5,7 +5,7 @@ use Rattle.plc_base.specs.declared.out_frame.Out.{Out}
 use Rattle.node_rules.specs.Memory.{StationMemory}
 use Rattle.node_rules.specs.Drafts.{Draft, Ends, alone, sealing}
 use Rattle.node_rules.specs.States.{State}
-use Rattle.node_rules.specs.Carrying.{Carries}
+use Rattle.node_rules.specs.CarriedPlans.{Carries}
 
 -- one that was done
 pub done_as : {H E F : Type 0} (ends : Ends E) (others : Ends F) (s t : State StationMemory) (d : Draft StationMemory) (u : Unit {0}) (answer : H)

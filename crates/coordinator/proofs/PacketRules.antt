@@ -9,7 +9,7 @@ use Rattle.store_tables.specs.Writes.{Wrote, puts_of}
 use Rattle.store_tables.specs.SlotTables as slots
 use Rattle.plc_base.specs.Grant.{Granted}
 use Rattle.plc_base.specs.declared.address.Eui.{Eui}
-use Rattle.plc_base.specs.declared.key.Rand.{Rand}
+use Rattle.plc_base.specs.declared.key.RandomOctets.{RandomOctets}
 use Rattle.plc_base.specs.declared.out_frame.Out.{Out}
 use Rattle.plc_base.specs.declared.tags.TagList.{TagList}
 use Rattle.store_tables.proofs.SlotTables.{found}
@@ -32,22 +32,22 @@ use Rattle.node_rules.specs.declared.refusal.Dropped.TheVariants.{NotAllowed, No
 use Rattle.node_rules.specs.Ciphers.{network}
 use Rattle.node_rules.specs.Memory.{StationMemory, Memory, CoordinatorSession, address_of}
 use Rattle.node_rules.specs.MemoryDrafts.{with_memory_by, with_pair_tags, packet_fault}
-use Rattle.node_rules.specs.Joining.{message, server_agrees}
+use Rattle.node_rules.specs.JoiningPackets.{message, server_agrees}
 use Rattle.node_rules.specs.Drafts.{empty_draft, refused, checked}
-use Rattle.node_rules.specs.Hearing.{dropped}
+use Rattle.node_rules.specs.HearingRules.{dropped}
 use Rattle.node_rules.specs.Coordinators.{CoordinatorIdentity, Hearing, session_of, is_of, allowed_entry, grant_for, with_session, without_session}
 use Rattle.node_rules.specs.Coordinators.{with_book_entry, keys_for, take_second, accepts, take_fourth, take_packet, join_with_packet}
 use Rattle.node_rules.specs.States.{State}
-use Rattle.node_rules.specs.Carrying.{Carries}
-use Rattle.plc_station.proofs.Carrying.{at_some}
+use Rattle.node_rules.specs.CarriedPlans.{Carries}
+use Rattle.plc_station.proofs.CarriedPlans.{at_some}
 use Rattle.coordinator.specs.CoordinatorAgreement.{CoordinatorAgreesWith}
 use Rattle.coordinator.specs.CoordinatorStates.{memory_in, state_in}
 use Rattle.coordinator.specs.DraftsCarriedOut.{Does}
 use Rattle.coordinator.specs.Tables.{placed}
 use Rattle.coordinator.specs.JoiningReplies.{RoomToSay, say_fault, done_by, saying, said_after}
 use Rattle.coordinator.specs.Packets.{IsServed, noting, noted, keying, accepting}
-use Rattle.coordinator.proofs.Storing.{carried_by}
-use Rattle.coordinator.proofs.Depoting.{no_grant}
+use Rattle.coordinator.proofs.StoredChanges.{carried_by}
+use Rattle.coordinator.proofs.DepotJoins.{no_grant}
 use Rattle.coordinator.proofs.ReplyRules as sayings
 
 -- # A session and an entry that are found
@@ -136,14 +136,14 @@ module _ (own : CoordinatorIdentity) (m : Memory) (eui : Eui) (packet : List ℕ
   answers entry session e s = rw (← e, ← s) refl
 
 module _ (own : CoordinatorIdentity) (m : Memory) (e : BookEntry) (packet : List ℕ) (now : ℕ) (s : CoordinatorSession) where
-  by_rand : Option Rand → Hearing
+  by_rand : Option RandomOctets → Hearing
   by_rand o = option_map_or (λ rand_p. take_fourth own m s e packet rand_p now) o (take_second own m s e packet now)
 
   pub second_awaited : None ≡ s.server.rand_p → take_second own m s e packet now ≡ take_packet own m e packet now s
   unfolding by_rand
   second_awaited r = ap by_rand r
 
-  pub fourth_awaited : (rand_p : Rand) → Some rand_p ≡ s.server.rand_p → take_fourth own m s e packet rand_p now ≡ take_packet own m e packet now s
+  pub fourth_awaited : (rand_p : RandomOctets) → Some rand_p ≡ s.server.rand_p → take_fourth own m s e packet rand_p now ≡ take_packet own m e packet now s
   unfolding by_rand
   fourth_awaited rand_p r = ap by_rand r
 
@@ -245,7 +245,7 @@ module _ (s : State Memory) (m : Memory) (session : CoordinatorSession) (e : Boo
 
 -- # The fourth packet
 
-module _ (own : Eui) (m : Memory) (s : CoordinatorSession) (e : BookEntry) (packet : List ℕ) (rand_p : Rand) (now : ℕ) where
+module _ (own : Eui) (m : Memory) (s : CoordinatorSession) (e : BookEntry) (packet : List ℕ) (rand_p : RandomOctets) (now : ℕ) where
   fourth_by : Option EapFault → Hearing
   fourth_by fault = checked dropped m (option_map packet_fault fault) (accepts m s rand_p now)
 
@@ -266,15 +266,16 @@ module _ (own : Eui) (m : Memory) (s : CoordinatorSession) (e : BookEntry) (pack
   fourth_taken agreed tags none is made = accept_plan agreed tags is made ∙ ap fourth_by (sym none)
 
 -- the values of a session that were agreed on
-pub agreed_is : (agreed : Agreed) (server : Server) (rand_p : Rand) → agreed.rand_s ≡ server.rand_s → Some agreed.rand_p ≡ server.rand_p
+pub agreed_is : (agreed : Agreed) (server : Server) (rand_p : RandomOctets) → agreed.rand_s ≡ server.rand_s → Some agreed.rand_p ≡ server.rand_p
     → server.rand_p ≡ Some rand_p → agreed ≡ server_agrees server rand_p
 agreed_is agreed server rand_p mine theirs awaits = λ i. record { rand_s = mine i; rand_p = some_same agreed.rand_p rand_p (theirs ∙ awaits) i }
 
-pub agreed_tags : (agreed : Agreed) (server : Server) (rand_p : Rand) (tags : TagList) → Some agreed.rand_p ≡ server.rand_p → server.rand_p ≡ Some rand_p
+pub agreed_tags : (agreed : Agreed) (server : Server) (rand_p : RandomOctets) (tags : TagList) → Some agreed.rand_p ≡ server.rand_p
+    → server.rand_p ≡ Some rand_p
     → tags ≡ fourth_tags (peer_of server agreed.rand_p)
     → tags ≡ fourth_tags (peer_of server rand_p)
 agreed_tags agreed server rand_p tags theirs awaits is =
-    is ∙ ap (λ (r : Rand). fourth_tags (peer_of server r)) (some_same agreed.rand_p rand_p (theirs ∙ awaits))
+    is ∙ ap (λ (r : RandomOctets). fourth_tags (peer_of server r)) (some_same agreed.rand_p rand_p (theirs ∙ awaits))
 
 -- # The acceptance
 
@@ -314,13 +315,13 @@ module _ (m : Memory) (session : CoordinatorSession) (agreed : Agreed) (tags : T
 
 -- # The session in the memory
 
-pub went_on : (s : State StationMemory) (randoms : List Rand) (sessions next : List CoordinatorSession) (b : book.Book) (session : CoordinatorSession)
+pub went_on : (s : State StationMemory) (randoms : List RandomOctets) (sessions next : List CoordinatorSession) (b : book.Book) (session : CoordinatorSession)
     (l : StationMemory) → s.memory ≡ Some l → next ≡ placed session sessions
     → state_in s randoms next b ≡ record (state_in s randoms sessions b) { memory = Some (with_session session (memory_in randoms sessions b l)) }
 went_on s randoms sessions next b session l running put =
     λ i. record { store = s.store; eui = s.eui; memory = option_map (memory_in randoms (put i) b) (running i); replied = s.replied }
 
 -- a third packet has octets
-pub third_some : (eap : List ℕ) (keys : PairKeys) (server : Server) (rand_p : Rand) (granted : Granted)
+pub third_some : (eap : List ℕ) (keys : PairKeys) (server : Server) (rand_p : RandomOctets) (granted : Granted)
     → eap ≡ third_packet keys 2 (peer_of server rand_p) granted → 0 < length eap
 third_some eap keys server rand_p granted is = subst (λ (k : List ℕ). 0 < length k) (sym is) (omega arith)

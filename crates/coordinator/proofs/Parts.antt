@@ -4,7 +4,7 @@ use Rattle.std.specs.Prelude.{IfSome, IsSome}
 use Rattle.std.specs.Option.{option_map}
 use Rattle.plc_base.specs.Grant.{Granted}
 use Rattle.plc_base.specs.Keeper.{Records}
-use Rattle.plc_base.specs.declared.key.Rand.{Rand}
+use Rattle.plc_base.specs.declared.key.RandomOctets.{RandomOctets}
 use Rattle.group_keys.specs.KeyRing.{Ring}
 use Rattle.group_keys.specs.KeyBook as book
 use Rattle.node_rules.specs.Memory.{StationMemory, Memory, CoordinatorSession, address_of}
@@ -20,7 +20,7 @@ pub has_ring : (r : Ring) → option_map (λ (g : Granted). g.address) r ≡ Som
 has_ring None home = absurd (cc)
 has_ring (Some g) home = refl
 
-module _ (randoms : List Rand) (sessions : List CoordinatorSession) (b : book.Book) (records : Records) where
+module _ (randoms : List RandomOctets) (sessions : List CoordinatorSession) (b : book.Book) (records : Records) where
   pub part_agrees : (o : Option StationMemory) → IfSome (option_map (memory_in randoms sessions b) o) (λ m. CoordinatorAgreesWith m records)
       → IfSome o (λ l. AgreesWith l records)
   part_agrees None h = tt

@@ -3,19 +3,19 @@ use Rattle.std.proofs.Common.{◌≡◌, ℕ, ◌≤◌, List, [], ◌∷◌, le
 use Rattle.std.specs.Prelude.{IfSome, IfNone, IfOk, IsSome}
 use Rattle.std.specs.Option.{option_map}
 use Rattle.plc_base.specs.declared.address.Eui.{Eui}
-use Rattle.plc_base.specs.declared.key.Rand.{Rand}
+use Rattle.plc_base.specs.declared.key.RandomOctets.{RandomOctets}
 use Rattle.plc_base.specs.declared.out_frame.Out.{Out}
 use Rattle.plc_base.specs.Keeper.{Write}
 use Rattle.group_keys.specs.KeyBook as book
 use Rattle.node_rules.specs.Accepted.{Accepted}
-use Rattle.node_rules.specs.Accepting.{Accepting, accept, marking}
+use Rattle.node_rules.specs.Acceptance.{Accepting, accept, marking}
 use Rattle.node_rules.specs.declared.heard.CoordinatorHeard.{CoordinatorHeard}
 use Rattle.node_rules.specs.declared.refusal.Dropped.{Dropped}
 use Rattle.node_rules.specs.declared.refusal.FrameRefusal.{FrameRefusal}
 use Rattle.node_rules.specs.declared.refusal.FrameRefusal.TheVariants.{Halted}
 use Rattle.node_rules.specs.declared.refusal.Unheard.{Unheard}
 use Rattle.node_rules.specs.Agreement.{Agrees, AgreesWith}
-use Rattle.node_rules.specs.Carrying.{Carries, nothing}
+use Rattle.node_rules.specs.CarriedPlans.{Carries, nothing}
 use Rattle.node_rules.specs.Ciphers.{network}
 use Rattle.node_rules.specs.Coordinators as rules
 use Rattle.node_rules.specs.Frames.{Arrived}
@@ -27,12 +27,12 @@ use Rattle.node_rules.specs.Plans.{resting}
 use Rattle.node_rules.specs.Receives.{Receives, FollowsAccepting, heard_or_why, why_refused}
 use Rattle.node_rules.specs.States.{State}
 use Rattle.node_rules.proofs.CallShapes.{AcceptShape, Stays, Marks, accept_shape, only_marks}
-use Rattle.node_rules.proofs.Composing.{carries_within}
-use Rattle.plc_station.proofs.Carrying.{at_some}
+use Rattle.node_rules.proofs.ComposedPlans.{carries_within}
+use Rattle.plc_station.proofs.CarriedPlans.{at_some}
 use Rattle.coordinator.specs.CoordinatorAgreement.{CoordinatorAgrees}
 use Rattle.coordinator.specs.CoordinatorStates.{CoordinatorState, memory_in, node_of, identity_of, state_in}
 use Rattle.coordinator.proofs.Parts.{part_agrees, part_home, part_book}
-use Rattle.coordinator.proofs.Storing.{on_parts}
+use Rattle.coordinator.proofs.StoredChanges.{on_parts}
 use Rattle.coordinator.proofs.Within.{AreBelow, KeepsHome, home_holds}
 
 -- # What accepting leaves as it is
@@ -71,7 +71,7 @@ halted_beside x t r = by x.station.memory
     by None h = (h.0, ap (λ (s : State StationMemory). record x { station = s }) h.1)
     by (Some l) h = tt
 
-module _ (s t : State StationMemory) (randoms : List Rand) (sessions : List CoordinatorSession) (b : book.Book) (a : Option Arrived)
+module _ (s t : State StationMemory) (randoms : List RandomOctets) (sessions : List CoordinatorSession) (b : book.Book) (a : Option Arrived)
     (r : Result Accepted FrameRefusal) where
   -- one that accepted is not halted
   pub still_runs : IfOk r (λ got. IsSome t.memory) → IfOk r (λ got. IsSome (option_map (memory_in randoms sessions b) t.memory))

@@ -26,23 +26,23 @@ use Rattle.node_rules.specs.MemoryDrafts.{in_memory, with_station, on_station, g
 use Rattle.node_rules.specs.Plans.{Plan, within}
 use Rattle.node_rules.specs.Drafts.{Draft, Lack, OfRoom, OfNumbers, empty_draft, refused, sealing, checked, is_awaited, body_goes, waits, seeks_once, goes}
 use Rattle.node_rules.specs.Drafts.{with_own_number}
-use Rattle.node_rules.specs.Joining.{command_of}
-use Rattle.node_rules.specs.Hearing.{dropped, dropped_for}
+use Rattle.node_rules.specs.JoiningPackets.{command_of}
+use Rattle.node_rules.specs.HearingRules.{dropped, dropped_for}
 use Rattle.node_rules.specs.Calls as calls
 use Rattle.node_rules.specs.Calls.{commands, command_fault, command_frames}
 use Rattle.node_rules.specs.Coordinators.{Hearing, says}
 use Rattle.node_rules.specs.States.{State}
-use Rattle.node_rules.specs.Carrying.{Carries}
-use Rattle.node_rules.specs.Composing.{behind, adding, answer_if_sent, command_alone, HasRoom}
-use Rattle.node_rules.proofs.Composing.{carries_within, carries_behind, carries_stopped, carries_quiet, state_is, sealed_quiet, command_plan, command_units}
-use Rattle.node_rules.proofs.Composing.{room_fault_as, room_seals, room_refuses, carried_whole, carried_cut}
+use Rattle.node_rules.specs.CarriedPlans.{Carries}
+use Rattle.node_rules.specs.ComposedPlans.{behind, adding, answer_if_sent, command_alone, HasRoom}
+use Rattle.node_rules.proofs.ComposedPlans.{carries_within, carries_behind, carries_stopped, carries_quiet, state_is, sealed_quiet, command_plan, command_units}
+use Rattle.node_rules.proofs.ComposedPlans.{room_fault_as, room_seals, room_refuses, carried_whole, carried_cut}
 use Rattle.plc_station.specs.Rooms.{room_answer}
-use Rattle.plc_station.proofs.Carrying.{at_some}
+use Rattle.plc_station.proofs.CarriedPlans.{at_some}
 use Rattle.coordinator.specs.CoordinatorAgreement.{CoordinatorAgreesWith}
 use Rattle.coordinator.specs.MeshCommands.{sent_command}
 use Rattle.coordinator.specs.JoiningReplies.{RoomToSay, say_fault, done_by, saying, said_after}
-use Rattle.coordinator.proofs.Reaching.{at_home, is_some_of}
-use Rattle.coordinator.proofs.Storing.{carried_by}
+use Rattle.coordinator.proofs.CommandRoutes.{at_home, is_some_of}
+use Rattle.coordinator.proofs.StoredChanges.{carried_by}
 
 -- # Room for a command
 

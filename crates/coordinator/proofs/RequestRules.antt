@@ -4,7 +4,7 @@ use Rattle.std.specs.Prelude.{IfSome}
 use Rattle.store_tables.specs.Writes.{Wrote}
 use Rattle.plc_base.specs.Keeper.{Store}
 use Rattle.plc_base.specs.declared.address.Eui.{Eui}
-use Rattle.plc_base.specs.declared.key.Rand.{Rand}
+use Rattle.plc_base.specs.declared.key.RandomOctets.{RandomOctets}
 use Rattle.plc_base.specs.declared.out_frame.Out.{Out}
 use Rattle.plc_base.specs.declared.tags.TagList.{TagList}
 use Rattle.store_tables.proofs.WritesLemmas.{wrote_none}
@@ -20,15 +20,15 @@ use Rattle.node_rules.specs.declared.refusal.Dropped.{Dropped}
 use Rattle.node_rules.specs.declared.refusal.Dropped.TheVariants.{SessionsFull, NoRandom}
 use Rattle.node_rules.specs.Memory.{Memory, CoordinatorSession}
 use Rattle.node_rules.specs.MemoryDrafts.{with_memory_by, oldest, without_oldest}
-use Rattle.node_rules.specs.Joining.{message, first_packet, server_for}
+use Rattle.node_rules.specs.JoiningPackets.{message, first_packet, server_for}
 use Rattle.node_rules.specs.Drafts.{empty_draft, refused, checked, choose}
-use Rattle.node_rules.specs.Hearing.{dropped}
+use Rattle.node_rules.specs.HearingRules.{dropped}
 use Rattle.node_rules.specs.Coordinators.{CoordinatorIdentity, with_session, sessions_full, declines, challenges, open_session, join_without_packet}
 use Rattle.node_rules.specs.States.{State}
-use Rattle.node_rules.specs.Carrying.{Carries}
+use Rattle.node_rules.specs.CarriedPlans.{Carries}
 use Rattle.coordinator.specs.CoordinatorAgreement.{CoordinatorAgreesWith}
 use Rattle.coordinator.specs.JoiningReplies.{RoomToSay, say_fault, done_by, saying, said_after}
-use Rattle.coordinator.proofs.Storing.{carried_by}
+use Rattle.coordinator.proofs.StoredChanges.{carried_by}
 use Rattle.coordinator.proofs.ReplyRules.{answered, said, lacks_plan, room_held}
 
 -- # The plan, by what is tested
@@ -42,7 +42,7 @@ module _ (own : CoordinatorIdentity) (m : Memory) (way : Way) (eui : Eui) (now :
   unfolding checked
   no_random f v = rw (← f, ← v) refl
 
-  pub opens : (value : Rand) → false ≡ sessions_full m eui → Some value ≡ oldest m
+  pub opens : (value : RandomOctets) → false ≡ sessions_full m eui → Some value ≡ oldest m
       → challenges m way (server_for eui own.eui value) now ≡ open_session own m way eui now
   unfolding checked
   opens value f v = rw (← f, ← v) refl

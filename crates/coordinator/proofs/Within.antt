@@ -22,9 +22,9 @@ use Rattle.node_rules.specs.Drafts.{Ends, alone, empty_draft, with_ring, sealing
 use Rattle.node_rules.specs.Coordinators.{orders}
 use Rattle.node_rules.specs.Agreement.{AgreesWith, Agrees}
 use Rattle.node_rules.specs.States.{State}
-use Rattle.node_rules.specs.Composing.{seen}
-use Rattle.node_rules.proofs.Composing.{carries_within}
-use Rattle.node_rules.specs.Carrying.{Carries}
+use Rattle.node_rules.specs.ComposedPlans.{seen}
+use Rattle.node_rules.proofs.ComposedPlans.{carries_within}
+use Rattle.node_rules.specs.CarriedPlans.{Carries}
 use Rattle.coordinator.specs.CoordinatorAgreement.{CoordinatorAgreesWith, CoordinatorAgrees, HasCoordinatorAddress}
 
 -- so its station did

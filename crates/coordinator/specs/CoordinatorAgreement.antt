@@ -10,7 +10,7 @@ use Rattle.group_keys.specs.KeyBook as book
 use Rattle.node_rules.specs.Memory.{Memory, address_of}
 use Rattle.node_rules.specs.Agreement.{AgreesWith}
 use Rattle.node_rules.specs.States.{State}
-use Rattle.node_rules.specs.Carrying.{nothing}
+use Rattle.node_rules.specs.CarriedPlans.{nothing}
 
 -- What its station and its book hold as stored is what the records give, and its address is 0000.
 pub record CoordinatorAgreesWith (m : Memory) (records : Records) : Type 0 where

@@ -11,10 +11,10 @@ use Rattle.node_rules.specs.Memory.{Memory}
 use Rattle.node_rules.specs.MemoryDrafts.{in_memory}
 use Rattle.node_rules.specs.Plans.{Plan}
 use Rattle.node_rules.specs.Drafts.{Draft, checked, sealing}
-use Rattle.node_rules.specs.Joining.{command_of}
-use Rattle.node_rules.specs.Hearing.{dropped, dropped_for}
+use Rattle.node_rules.specs.JoiningPackets.{command_of}
+use Rattle.node_rules.specs.HearingRules.{dropped, dropped_for}
 use Rattle.node_rules.specs.Calls.{command_fault}
-use Rattle.node_rules.specs.Composing.{begun}
+use Rattle.node_rules.specs.ComposedPlans.{begun}
 use Rattle.node_rules.specs.Coordinators.{Hearing, says, say_lack, ends}
 use Rattle.coordinator.specs.MeshCommands.{RoomFor}
 

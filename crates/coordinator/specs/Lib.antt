@@ -1,13 +1,13 @@
 pub mod SessionCodes
 pub mod CoordinatorStates
 pub mod Tables
-pub mod CoordinatorReading
+pub mod ReadAnswers
 pub mod CoordinatorAgreement
-pub mod Opening
+pub mod CoordinatorStart
 pub mod DraftsCarriedOut
-pub mod Ordering
+pub mod OrderAnswers
 pub mod MeshCommands
-pub mod Kicking
+pub mod Kicks
 pub mod JoiningReplies
 pub mod Packets
 pub mod Ends

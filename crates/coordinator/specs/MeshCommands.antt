@@ -6,9 +6,9 @@ use Rattle.node_rules.specs.Memory.{Memory, Command, next_hop}
 use Rattle.node_rules.specs.MemoryDrafts.{with_station}
 use Rattle.node_rules.specs.Plans.{within}
 use Rattle.node_rules.specs.Drafts.{counters_left}
-use Rattle.node_rules.specs.Joining.{command_of}
+use Rattle.node_rules.specs.JoiningPackets.{command_of}
 use Rattle.node_rules.specs.Calls.{command_fault}
-use Rattle.node_rules.specs.Composing.{HasRoom, answer_if_sent, command_alone}
+use Rattle.node_rules.specs.ComposedPlans.{HasRoom, answer_if_sent, command_alone}
 use Rattle.node_rules.specs.Coordinators.{Ordering, orders, lacking}
 
 -- there is room for the command that carries a message

@@ -12,7 +12,7 @@ use Rattle.joining_messages.specs.declared.message.JoinBody.TheVariants.{Accept}
 use Rattle.node_rules.specs.declared.heard.CoordinatorHeard.TheVariants.{Keyed, Done}
 use Rattle.node_rules.specs.Memory.{Memory, CoordinatorSession}
 use Rattle.node_rules.specs.Drafts.{Draft, empty_draft}
-use Rattle.node_rules.specs.Joining.{message}
+use Rattle.node_rules.specs.JoiningPackets.{message}
 use Rattle.node_rules.specs.Coordinators.{Hearing, sessions_full, grant_for, with_session, without_session, with_book_entry}
 use Rattle.coordinator.specs.JoiningReplies.{done_by, said_after}
 

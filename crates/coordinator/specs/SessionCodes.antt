@@ -3,14 +3,14 @@ use Rattle.std.specs.Prelude.{◌≡◌, ◌⊎◌, ℕ, List, Option, refl}
 use mathlib.Core.Logic.{inl, inr}
 use Rattle.std.specs.Coded.{Coded, code_by, coded×, coded⊎, coded_ℕ, coded_list, coded_option}
 use Rattle.plc_base.specs.declared.address.Eui.{Eui}
-use Rattle.plc_base.specs.declared.key.Rand.{Rand}
+use Rattle.plc_base.specs.declared.key.RandomOctets.{RandomOctets}
 use Rattle.eap_psk.specs.declared.server.Server.{Server}
 use Rattle.node_rules.specs.declared.heard.Way.{Way}
 use Rattle.node_rules.specs.declared.heard.Way.TheVariants.{Air, Near, Mesh}
 use Rattle.node_rules.specs.Memory.{CoordinatorSession}
 use Rattle.node_rules.specs.States.{eui_code}
 
-abbrev pub rand_code : Coded Rand
+abbrev pub rand_code : Coded RandomOctets
 rand_code = code_by (List ℕ) (coded_list coded_ℕ) (λ r. r.0) (λ xs. record { 0 = xs }) (λ _. refl)
 
 abbrev pub way_parts : Way → Eui ⊎ (ℕ ⊎ ℕ)
@@ -35,7 +35,7 @@ way_code =
 
 abbrev pub server_code : Coded Server
 server_code =
-    code_by (Eui × (Eui × (Rand × Option Rand)))
+    code_by (Eui × (Eui × (RandomOctets × Option RandomOctets)))
     (coded× eui_code (coded× eui_code (coded× rand_code (coded_option rand_code))))
     (λ s. (s.eui, (s.id_s, (s.rand_s, s.rand_p))))
     (λ t. record { eui = t.0; id_s = t.1.0; rand_s = t.1.1.0; rand_p = t.1.1.1 }) (λ _. refl)

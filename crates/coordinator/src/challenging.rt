@@ -1,11 +1,11 @@
 //! Sessions that the operator opens with a meter over the mesh.
 ghost use Rattle.std.specs.Prelude.{◌≡◌, ◌≤◌, false, Err, Some, None, IfSome, IfNone, IsSome, length};
 ghost use Rattle.joining_messages.specs.declared.message.JoinBody.TheVariants as body;
-ghost use Rattle.node_rules.specs.Joining.{command_of};
-ghost use Rattle.node_rules.specs.Joining as joining;
+ghost use Rattle.node_rules.specs.JoiningPackets.{command_of};
+ghost use Rattle.node_rules.specs.JoiningPackets as joining_packets;
 ghost use Rattle.node_rules.specs.MemoryDrafts as words;
 ghost use Rattle.node_rules.specs.Coordinators as rules;
-ghost use Rattle.node_rules.specs.Carrying.{Carries, nothing};
+ghost use Rattle.node_rules.specs.CarriedPlans.{Carries, nothing};
 ghost use Rattle.coordinator.specs.CoordinatorStates.{node_of};
 ghost use Rattle.coordinator.specs.CoordinatorAgreement.{CoordinatorReady, CoordinatorReadyToAnswer, CoordinatorAgrees};
 ghost use Rattle.station_queues.specs.declared.bodies.TheConstants.{LONGEST_COMMAND};
@@ -16,7 +16,7 @@ use eap_psk::Server;
 use joining_base::{CommandBuf, write_command};
 use joining_messages::{JoinBody, JoinMessage};
 use node_rules::{CoordinatorRefusal, Way};
-use plc_base::{EapBuf, Eui, Keeper, Out, Rand, Short};
+use plc_base::{EapBuf, Eui, Keeper, Out, RandomOctets, Short};
 
 impl<K: Keeper + Drop> Coordinator<K> {
     // The address of a meter that is allowed.
@@ -37,7 +37,7 @@ impl<K: Keeper + Drop> Coordinator<K> {
     }
 
     // The oldest random value.
-    pub(crate) fn oldest(&self) -> Option<Rand>
+    pub(crate) fn oldest(&self) -> Option<RandomOctets>
         ensures { IfSome (node_of self.now).memory (λ m. result ≡ words.oldest m) }
     {
         self.randoms.oldest()
@@ -57,10 +57,10 @@ impl<K: Keeper + Drop> Coordinator<K> {
     }
 
     // Writes the command that carries the first packet of a session with this random value, and answers the session's server.
-    fn first_command(&self, eui: Eui, value: Rand, command: &mut CommandBuf) -> Server
-        ensures server { result ≡ joining.server_for eui self.now.station.eui value }
+    fn first_command(&self, eui: Eui, value: RandomOctets, command: &mut CommandBuf) -> Server
+        ensures server { result ≡ joining_packets.server_for eui self.now.station.eui value }
         ensures command { command.new
-            ≡ command_of (joining.message eui (body.Challenge (joining.first_packet result))) }
+            ≡ command_of (joining_packets.message eui (body.Challenge (joining_packets.first_packet result))) }
         ensures some { 1 ≤ length command.new }
         ensures fits { length command.new ≤ LONGEST_COMMAND }
     {
@@ -86,7 +86,7 @@ impl<K: Keeper + Drop> Coordinator<K> {
         requires some { 1 ≤ length command.now }
         requires fits { length command.now ≤ LONGEST_COMMAND }
         requires packet { command.now
-            ≡ command_of (joining.message server.eui (body.Challenge (joining.first_packet server))) }
+            ≡ command_of (joining_packets.message server.eui (body.Challenge (joining_packets.first_packet server))) }
         ensures carries { IfSome (node_of self.old).memory (λ m. Carries (node_of self.old)
             (rules.challenge_by self.old.station.eui m to now server) result out.new (node_of self.new)) }
         ensures holds { CoordinatorAgrees (node_of self.new) }
@@ -105,7 +105,7 @@ impl<K: Keeper + Drop> Coordinator<K> {
         &mut self,
         eui: Eui,
         to: Short,
-        value: Rand,
+        value: RandomOctets,
         now: u64,
         out: &mut Out,
     ) -> Result<(), CoordinatorRefusal>
@@ -113,7 +113,7 @@ impl<K: Keeper + Drop> Coordinator<K> {
         requires room { IfSome (node_of self.old).memory (λ m. rules.sessions_full m eui ≡ false) }
         requires value { IfSome (node_of self.old).memory (λ m. Some value ≡ words.oldest m) }
         ensures carries { IfSome (node_of self.old).memory (λ m. Carries (node_of self.old)
-            (rules.challenge_by self.old.station.eui m to now (joining.server_for eui self.old.station.eui value))
+            (rules.challenge_by self.old.station.eui m to now (joining_packets.server_for eui self.old.station.eui value))
             result out.new (node_of self.new)) }
         ensures holds { CoordinatorAgrees (node_of self.new) }
     {

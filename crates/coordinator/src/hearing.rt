@@ -1,10 +1,10 @@
 //! What the coordinator makes of a frame that it accepted.
 ghost use Rattle.std.specs.Prelude.{◌≡◌, Some, None, IfSome};
-ghost use Rattle.joining_messages.specs.Reading.{join_in};
+ghost use Rattle.joining_messages.specs.Reader.{join_in};
 ghost use Rattle.joining_messages.specs.declared.message.JoinBody.TheVariants as body;
-ghost use Rattle.node_rules.specs.Hearing as hearing;
+ghost use Rattle.node_rules.specs.HearingRules as hearing_rules;
 ghost use Rattle.node_rules.specs.Coordinators as rules;
-ghost use Rattle.node_rules.specs.Carrying.{Carries};
+ghost use Rattle.node_rules.specs.CarriedPlans.{Carries};
 ghost use Rattle.node_rules.specs.MemoryDrafts.{unread};
 ghost use Rattle.node_rules.specs.Replies.{reply_sent};
 ghost use Rattle.coordinator.specs.CoordinatorStates.{node_of, identity_of};
@@ -120,10 +120,10 @@ impl<K: Keeper + Drop> Coordinator<K> {
     ) -> Result<Heard<'a>, Dropped>
         requires ready { CoordinatorReady (node_of self.old) }
         ensures carries { IfSome self.old.station.memory (λ l. Carries self.old.station
-            (hearing.hear l got.entry cost note now) result out.new self.new.station) }
+            (hearing_rules.hear l got.entry cost note now) result out.new self.new.station) }
         ensures beside { self.new ≡ record self.old { station = self.new.station } }
         ensures replied { IfSome self.old.station.memory (λ l. self.new.station.replied
-            ≡ reply_sent (hearing.hear l got.entry cost note now) self.new.station.memory) }
+            ≡ reply_sent (hearing_rules.hear l got.entry cost note now) self.new.station.memory) }
         ensures holds { CoordinatorAgrees (node_of self.new) }
     {
         self.station.hear(got, cost, note, now, datagram, out)
@@ -150,7 +150,7 @@ impl<K: Keeper + Drop> Coordinator<K> {
         ensures carries { IfSome (node_of self.old).memory (λ m. Carries (node_of self.old)
             (rules.hear_coordinator (identity_of self.old) m got.entry cost note now)
             result out.new (node_of self.new)) }
-        ensures replied { IfSome (node_of self.old).memory (λ m. unread (hearing.hear m.station got.entry cost note now).answer ≡ None
+        ensures replied { IfSome (node_of self.old).memory (λ m. unread (hearing_rules.hear m.station got.entry cost note now).answer ≡ None
             → self.new.station.replied ≡ reply_sent (rules.hear_coordinator (identity_of self.old) m got.entry cost note now)
             (node_of self.new).memory) }
         ensures holds { CoordinatorAgrees (node_of self.new) }

@@ -2,11 +2,11 @@
 ghost use Rattle.std.specs.Prelude.{◌≡◌, ◌≤◌, [], Some, IfSome, IfOk, IfErr, length};
 ghost use Rattle.joining_messages.specs.Messages.{IsMessage};
 ghost use Rattle.node_rules.specs.declared.heard.Way.TheVariants as ways;
-ghost use Rattle.node_rules.specs.Joining.{command_of};
-ghost use Rattle.node_rules.specs.Hearing.{dropped, dropped_for};
+ghost use Rattle.node_rules.specs.JoiningPackets.{command_of};
+ghost use Rattle.node_rules.specs.HearingRules.{dropped, dropped_for};
 ghost use Rattle.node_rules.specs.Calls.{command_fault};
-ghost use Rattle.node_rules.specs.Carrying.{Carries};
-ghost use Rattle.node_rules.specs.Composing.{HasRoom};
+ghost use Rattle.node_rules.specs.CarriedPlans.{Carries};
+ghost use Rattle.node_rules.specs.ComposedPlans.{HasRoom};
 ghost use Rattle.coordinator.specs.CoordinatorStates.{node_of};
 ghost use Rattle.coordinator.specs.CoordinatorAgreement.{CoordinatorReady, CoordinatorAgrees};
 ghost use Rattle.coordinator.specs.MeshCommands as mesh_plans;
@@ -28,7 +28,7 @@ fn coordinator_address() -> Short
 }
 
 impl<K: Keeper + Drop> Coordinator<K> {
-    // What a command of so many octets for an address would be dropped for.
+    // What a command of this many octets for an address would be dropped for.
     fn command_room(&self, to: Short, octets: u16) -> Result<(), Dropped>
         requires ready { CoordinatorReady (node_of self.now) }
         requires fits { octets ≤ LONGEST_COMMAND }

@@ -3,10 +3,10 @@ ghost use Rattle.std.specs.Prelude.{◌≡◌, false, Some, IfSome, IsSome};
 ghost use Rattle.joining_messages.specs.Messages.{IsMessage};
 ghost use Rattle.joining_messages.specs.declared.message.JoinBody.TheVariants as body;
 ghost use Rattle.group_keys.specs.KeyBook as book;
-ghost use Rattle.node_rules.specs.Joining as joining;
+ghost use Rattle.node_rules.specs.JoiningPackets as joining_packets;
 ghost use Rattle.node_rules.specs.MemoryDrafts as words;
 ghost use Rattle.node_rules.specs.Coordinators as rules;
-ghost use Rattle.node_rules.specs.Carrying.{Carries};
+ghost use Rattle.node_rules.specs.CarriedPlans.{Carries};
 ghost use Rattle.coordinator.specs.CoordinatorStates.{node_of, identity_of};
 ghost use Rattle.coordinator.specs.CoordinatorAgreement.{CoordinatorReadyToAnswer, CoordinatorAgrees};
 
@@ -15,7 +15,7 @@ use crate::sessions::ServerSession;
 use eap_psk::Server;
 use joining_messages::{JoinBody, JoinMessage};
 use node_rules::{CoordinatorHeard, Dropped, Way};
-use plc_base::{EapBuf, Eui, Keeper, Out, Rand};
+use plc_base::{EapBuf, Eui, Keeper, Out, RandomOctets};
 
 impl<K: Keeper + Drop> Coordinator<K> {
     // Whether a meter is allowed.
@@ -35,7 +35,7 @@ impl<K: Keeper + Drop> Coordinator<K> {
     ) -> Result<CoordinatorHeard<'static>, Dropped>
         requires ready { CoordinatorReadyToAnswer (node_of self.old) out.old }
         ensures carries { IfSome (node_of self.old).memory (λ m. Carries (node_of self.old)
-            (rules.declines m way.now (joining.message eui body.Decline) now) result out.new (node_of self.new)) }
+            (rules.declines m way.now (joining_packets.message eui body.Decline) now) result out.new (node_of self.new)) }
         ensures holds { CoordinatorAgrees (node_of self.new) }
     {
         let message = JoinMessage {
@@ -64,7 +64,7 @@ impl<K: Keeper + Drop> Coordinator<K> {
         requires value { IfSome (node_of self.old).memory (λ m. IsSome (words.oldest m)) }
         requires message { IsMessage message.now }
         requires packet { message.now
-            ≡ joining.message session.server.eui (body.Challenge (joining.first_packet session.server)) }
+            ≡ joining_packets.message session.server.eui (body.Challenge (joining_packets.first_packet session.server)) }
         ensures carries { IfSome (node_of self.old).memory (λ m. Carries (node_of self.old)
             (rules.challenges m session.way session.server session.since) result out.new (node_of self.new)) }
         ensures holds { CoordinatorAgrees (node_of self.new) }
@@ -85,7 +85,7 @@ impl<K: Keeper + Drop> Coordinator<K> {
         &mut self,
         way: &Way,
         eui: Eui,
-        value: Rand,
+        value: RandomOctets,
         now: u64,
         out: &mut Out,
     ) -> Result<CoordinatorHeard<'static>, Dropped>
@@ -93,7 +93,7 @@ impl<K: Keeper + Drop> Coordinator<K> {
         requires room { IfSome (node_of self.old).memory (λ m. rules.sessions_full m eui ≡ false) }
         requires value { IfSome (node_of self.old).memory (λ m. Some value ≡ words.oldest m) }
         ensures carries { IfSome (node_of self.old).memory (λ m. Carries (node_of self.old)
-            (rules.challenges m way.now (joining.server_for eui self.old.station.eui value) now)
+            (rules.challenges m way.now (joining_packets.server_for eui self.old.station.eui value) now)
             result out.new (node_of self.new)) }
         ensures holds { CoordinatorAgrees (node_of self.new) }
     {

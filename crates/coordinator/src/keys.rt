@@ -6,7 +6,7 @@ ghost use Rattle.node_rules.specs.Calls as calls;
 ghost use Rattle.node_rules.specs.Drafts as drafts;
 ghost use Rattle.node_rules.specs.MemoryDrafts as words;
 ghost use Rattle.node_rules.specs.Coordinators as rules;
-ghost use Rattle.node_rules.specs.Carrying.{Carries, nothing};
+ghost use Rattle.node_rules.specs.CarriedPlans.{Carries, nothing};
 ghost use Rattle.coordinator.specs.CoordinatorStates.{node_of};
 ghost use Rattle.coordinator.specs.CoordinatorAgreement.{CoordinatorReady, HasCoordinatorAddress, CoordinatorAgrees};
 

@@ -2,15 +2,15 @@
 ghost use Rattle.std.specs.Prelude.{◌≡◌, ◌≤◌, true, is_ok, length, Err, Some, IfSome, IfNone};
 ghost use Rattle.joining_messages.specs.declared.message.JoinBody.TheVariants as body;
 ghost use Rattle.group_keys.specs.KeyBook as book;
-ghost use Rattle.node_rules.specs.Joining.{command_of, message};
+ghost use Rattle.node_rules.specs.JoiningPackets.{command_of, message};
 ghost use Rattle.station_queues.specs.declared.bodies.TheConstants.{LONGEST_COMMAND};
 ghost use Rattle.node_rules.specs.Coordinators as rules;
-ghost use Rattle.node_rules.specs.Carrying.{Carries, nothing};
+ghost use Rattle.node_rules.specs.CarriedPlans.{Carries, nothing};
 ghost use Rattle.coordinator.specs.CoordinatorStates.{node_of};
 ghost use Rattle.coordinator.specs.CoordinatorAgreement.{CoordinatorReady, CoordinatorReadyToAnswer, CoordinatorAgrees};
 ghost use Rattle.coordinator.specs.DraftsCarriedOut.{Does};
 ghost use Rattle.coordinator.specs.MeshCommands as mesh_plans;
-ghost use Rattle.coordinator.specs.Kicking as kicking;
+ghost use Rattle.coordinator.specs.Kicks as kicks;
 
 use crate::coordinator::Coordinator;
 use crate::entries::kicked;
@@ -36,7 +36,7 @@ impl<K: Keeper + Drop> Coordinator<K> {
         requires ready { CoordinatorReady (node_of self.old) }
         requires room { IfSome (node_of self.old).memory (λ m. book.has_room m.book entry.now.eui ≡ true) }
         ensures does { IfSome (node_of self.old).memory (λ m.
-            Does (node_of self.old) (kicking.shut_out m entry.now) (is_ok result) (node_of self.new)) }
+            Does (node_of self.old) (kicks.shut_out m entry.now) (is_ok result) (node_of self.new)) }
         ensures holds { CoordinatorAgrees (node_of self.new) }
     {
         let Ok(_) = self.keep_entry(kicked(entry)) else {
@@ -51,7 +51,7 @@ impl<K: Keeper + Drop> Coordinator<K> {
         requires ready { CoordinatorReady (node_of self.old) }
         requires room { IfSome (node_of self.old).memory (λ m. book.has_room m.book entry.now.eui ≡ true) }
         ensures carries { IfSome (node_of self.old).memory (λ m.
-            Carries (node_of self.old) (kicking.silently m entry.now) result nothing (node_of self.new)) }
+            Carries (node_of self.old) (kicks.silently m entry.now) result nothing (node_of self.new)) }
         ensures holds { CoordinatorAgrees (node_of self.new) }
     {
         let Ok(()) = self.shut_out(entry) else {

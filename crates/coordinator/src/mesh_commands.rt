@@ -1,8 +1,8 @@
 //! Messages that go in a command for which there is room.
 ghost use Rattle.std.specs.Prelude.{◌≡◌, ◌≤◌, Some, Ok, Err, IfSome, IfOk, IfErr, length};
 ghost use Rattle.joining_messages.specs.Messages.{IsMessage};
-ghost use Rattle.node_rules.specs.Carrying.{Carries};
-ghost use Rattle.node_rules.specs.Composing.{HasRoom};
+ghost use Rattle.node_rules.specs.CarriedPlans.{Carries};
+ghost use Rattle.node_rules.specs.ComposedPlans.{HasRoom};
 ghost use Rattle.coordinator.specs.CoordinatorStates.{node_of};
 ghost use Rattle.coordinator.specs.CoordinatorAgreement.{CoordinatorReady, CoordinatorAgrees};
 ghost use Rattle.coordinator.specs.MeshCommands as mesh_plans;
@@ -16,7 +16,7 @@ use node_rules::CoordinatorRefusal;
 use plc_base::{Keeper, Out, Short};
 
 impl<K: Keeper + Drop> Coordinator<K> {
-    // What stands in the way of a command of so many octets for an address.
+    // What stands in the way of a command of this many octets for an address.
     pub(crate) fn room_for(&self, to: Short, octets: u16) -> Result<(), CoordinatorRefusal>
         requires ready { CoordinatorReady (node_of self.now) }
         requires fits { octets ≤ LONGEST_COMMAND }

@@ -4,14 +4,14 @@ ghost use Rattle.store_tables.specs.SlotTables as slots;
 ghost use Rattle.frame_counters.specs.PeerMarks.{peers};
 ghost use Rattle.routing_set.specs.RoutingSet.{ranks};
 ghost use Rattle.group_keys.specs.KeyBook as book;
-ghost use Rattle.node_rules.specs.StoreReading.{station_of, first_grant};
+ghost use Rattle.node_rules.specs.RestartStates.{station_of, first_grant};
 ghost use Rattle.node_rules.specs.Coordinators as rules;
 ghost use Rattle.node_rules.specs.Agreement.{Agrees};
-ghost use Rattle.node_rules.specs.Carrying.{Carries, nothing};
-ghost use Rattle.plc_station.specs.StationReading as stations;
+ghost use Rattle.node_rules.specs.CarriedPlans.{Carries, nothing};
+ghost use Rattle.plc_station.specs.StationViews as stations;
 ghost use Rattle.coordinator.specs.CoordinatorStates.{memory_in, node_of, state_in};
 ghost use Rattle.coordinator.specs.CoordinatorAgreement.{CoordinatorAgrees};
-ghost use Rattle.coordinator.specs.Opening as opening;
+ghost use Rattle.coordinator.specs.CoordinatorStart as coordinator_start;
 
 use crate::coordinator::Coordinator;
 use crate::sessions::Sessions;
@@ -42,7 +42,7 @@ fn open_book<K: Keeper + Drop>(
     ensures read { IfOk result (λ b. slots.opened book.entries station.old.store.records ≡ Ok b) }
     ensures kept { slots.IsGapless book.entries station.old.store.records
         → IfOk result (λ b. book.AgreesWith b station.old.store.records) }
-    ensures bad { IfErr result (λ fault. opening.IsBookFault (slots.opened book.entries station.old.store.records) fault) }
+    ensures bad { IfErr result (λ fault. coordinator_start.IsBookFault (slots.opened book.entries station.old.store.records) fault) }
 {
     match KeyBook::open(alloc, station.keeper_mut()) {
         Ok(book) => Ok(book),
@@ -82,7 +82,7 @@ fn begin<K: Keeper + Drop>(station: &mut Station<K>, key: &Key) -> Result<(), Ri
     ensures carries { (b : book.Book) → IfSome station.old.memory (λ l. Carries (state_in station.old [] [] b)
         (rules.begin (memory_in [] [] b l) (first_grant key.now)) result nothing (state_in station.new [] [] b)) }
     ensures holds { (b : book.Book) → Agrees station.old → book.AgreesWith b station.old.store.records
-        → opening.MayBegin station.old.store.records → CoordinatorAgrees (state_in station.new [] [] b) }
+        → coordinator_start.MayBegin station.old.store.records → CoordinatorAgrees (state_in station.new [] [] b) }
 {
     if station.ring().grant().is_some() {
         return Ok(());
@@ -102,12 +102,12 @@ impl<K: Keeper + Drop> Coordinator<K> {
         eui: Eui,
         key: &Key,
     ) -> Result<Coordinator<K>, (OpenFault, K)>
-        ensures opened { IfOk result (λ c. opening.Begins (K.store keeper) eui key.now (Ok tt) (node_of c)) }
+        ensures opened { IfOk result (λ c. coordinator_start.Begins (K.store keeper) eui key.now (Ok tt) (node_of c)) }
         ensures running { IfOk result (λ c. IsSome (node_of c).memory) }
         ensures holds { slots.IsGapless peers (K.store keeper).records → slots.IsGapless ranks (K.store keeper).records
-            → slots.IsGapless book.entries (K.store keeper).records → opening.MayBegin (K.store keeper).records
+            → slots.IsGapless book.entries (K.store keeper).records → coordinator_start.MayBegin (K.store keeper).records
             → IfOk result (λ c. CoordinatorAgrees (node_of c)) }
-        ensures refused { IfErr result (λ e. opening.IsOpenFault (K.store keeper) eui key.now e.0 (K.store e.1)) }
+        ensures refused { IfErr result (λ e. coordinator_start.IsOpenFault (K.store keeper) eui key.now e.0 (K.store e.1)) }
     {
         let mut station = match Station::open(alloc, keeper, eui) {
             Ok(station) => station,

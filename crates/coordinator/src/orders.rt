@@ -2,26 +2,26 @@
 ghost use Rattle.std.specs.Prelude.{◌≡◌, ◌≤◌, Err, Some, IfSome, IfNone, length};
 ghost use Rattle.joining_messages.specs.declared.message.JoinMessage.{JoinMessage};
 ghost use Rattle.joining_messages.specs.declared.message.JoinBody.TheVariants as body;
-ghost use Rattle.node_rules.specs.Joining.{command_of, message};
+ghost use Rattle.node_rules.specs.JoiningPackets.{command_of, message};
 ghost use Rattle.station_queues.specs.declared.bodies.TheConstants.{LONGEST_COMMAND};
 ghost use Rattle.group_keys.specs.KeyBook as book;
 ghost use Rattle.node_rules.specs.MemoryDrafts as words;
 ghost use Rattle.node_rules.specs.Coordinators as rules;
-ghost use Rattle.node_rules.specs.Carrying.{Carries, nothing};
+ghost use Rattle.node_rules.specs.CarriedPlans.{Carries, nothing};
 ghost use Rattle.coordinator.specs.CoordinatorStates.{node_of};
 ghost use Rattle.coordinator.specs.CoordinatorAgreement.{CoordinatorReady, CoordinatorAgrees};
-ghost use Rattle.coordinator.specs.Ordering as ordering;
+ghost use Rattle.coordinator.specs.OrderAnswers as order_answers;
 
 use crate::coordinator::Coordinator;
 use group_keys::BookEntry;
 use joining_base::{CommandBuf, write_command};
 use joining_messages::{JoinBody, JoinMessage};
 use node_rules::{CoordinatorRefusal, RandomFault, SendRefusal, SentHow};
-use plc_base::{Eui, Keeper, Key, KeyIndex, Out, Rand, Short};
+use plc_base::{Eui, Keeper, Key, KeyIndex, Out, RandomOctets, Short};
 
 // What a command is refused for, as the refusal of an order.
 pub(crate) fn order_refusal(reason: SendRefusal) -> CoordinatorRefusal
-    ensures { result ≡ ordering.order_refusal reason }
+    ensures { result ≡ order_answers.order_refusal reason }
 {
     match reason {
         SendRefusal::Halted => CoordinatorRefusal::Halted,
@@ -37,7 +37,7 @@ pub(crate) fn order_refusal(reason: SendRefusal) -> CoordinatorRefusal
 
 // What became of a command, as the answer of an order.
 fn order_answer(sent: Result<SentHow, SendRefusal>) -> Result<(), CoordinatorRefusal>
-    ensures { result ≡ ordering.order_answer sent }
+    ensures { result ≡ order_answers.order_answer sent }
 {
     match sent {
         Ok(_) => Ok(()),
@@ -67,7 +67,7 @@ fn write_activation(eui: Eui, index: KeyIndex, command: &mut CommandBuf)
 
 impl<K: Keeper + Drop> Coordinator<K> {
     // Takes a random value in, after the others.
-    fn take_random(&mut self, value: Rand) -> Result<(), RandomFault>
+    fn take_random(&mut self, value: RandomOctets) -> Result<(), RandomFault>
         requires ready { CoordinatorReady (node_of self.old) }
         ensures carries { IfSome (node_of self.old).memory (λ m.
             Carries (node_of self.old) (words.give_random m value) result nothing (node_of self.new)) }
@@ -77,7 +77,7 @@ impl<K: Keeper + Drop> Coordinator<K> {
     }
 
     /// Takes a random value in. Halted, RandomsFull exactly where 8 are held, in this order; nothing has changed then.
-    pub fn give_random(&mut self, value: Rand) -> Result<(), RandomFault>
+    pub fn give_random(&mut self, value: RandomOctets) -> Result<(), RandomFault>
         requires holds { CoordinatorAgrees (node_of self.old) }
         ensures halted { IfNone (node_of self.old).memory ((result ≡ Err RandomFault.Halted) × (self.new ≡ self.old)) }
         ensures carries { IfSome (node_of self.old).memory (λ m.

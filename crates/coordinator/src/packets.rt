@@ -9,10 +9,10 @@ ghost use Rattle.eap_psk.specs.Tags.{fourth_tags, no_tags, second_tags};
 ghost use Rattle.joining_messages.specs.Messages.{IsMessage};
 ghost use Rattle.joining_messages.specs.declared.message.JoinBody.TheVariants as body;
 ghost use Rattle.group_keys.specs.KeyBook as book;
-ghost use Rattle.node_rules.specs.Joining.{message};
+ghost use Rattle.node_rules.specs.JoiningPackets.{message};
 ghost use Rattle.node_rules.specs.MemoryDrafts.{packet_fault};
 ghost use Rattle.node_rules.specs.Coordinators as rules;
-ghost use Rattle.node_rules.specs.Carrying.{Carries};
+ghost use Rattle.node_rules.specs.CarriedPlans.{Carries};
 ghost use Rattle.coordinator.specs.CoordinatorStates.{node_of, identity_of};
 ghost use Rattle.coordinator.specs.CoordinatorAgreement.{CoordinatorReady, CoordinatorReadyToAnswer, CoordinatorAgrees};
 ghost use Rattle.coordinator.specs.DraftsCarriedOut.{Does};
@@ -26,7 +26,7 @@ use group_keys::BookEntry;
 use joining_base::dropped_packet;
 use joining_messages::{JoinBody, JoinMessage};
 use node_rules::{CoordinatorHeard, Dropped};
-use plc_base::{EapBuf, Eui, Failed, Grant, Keeper, Key, Out, Rand, TagList};
+use plc_base::{EapBuf, Eui, Failed, Grant, Keeper, Key, Out, RandomOctets, TagList};
 
 // The message with a third packet.
 fn third_with(eui: Eui, eap: EapBuf) -> JoinMessage
@@ -250,7 +250,7 @@ impl<K: Keeper + Drop> Coordinator<K> {
         &mut self,
         session: &ServerSession,
         entry: &BookEntry,
-        rand_p: Rand,
+        rand_p: RandomOctets,
         packet: &[u8],
         now: u64,
         out: &mut Out,

@@ -1,7 +1,7 @@
 //! A frame that comes: accepted by the station and heard in one call.
 ghost use Rattle.std.specs.Prelude.{◌≡◌, Err, IfNone, IfSome, IfOk, IsSome};
-ghost use Rattle.node_rules.specs.Accepting as accepting;
-ghost use Rattle.node_rules.specs.Carrying.{Carries, nothing};
+ghost use Rattle.node_rules.specs.Acceptance as acceptance;
+ghost use Rattle.node_rules.specs.CarriedPlans.{Carries, nothing};
 ghost use Rattle.node_rules.specs.Ciphers.{network};
 ghost use Rattle.node_rules.specs.Coordinators as rules;
 ghost use Rattle.node_rules.specs.Frames.{arrived};
@@ -25,7 +25,7 @@ impl<K: Keeper + Drop> Coordinator<K> {
         requires holds { CoordinatorAgrees (node_of self.old) }
         ensures halted { IfNone self.old.station.memory ((result ≡ Err FrameRefusal.Halted) × (self.new ≡ self.old)) }
         ensures carries { IfSome self.old.station.memory (λ l. Carries self.old.station
-            (accepting.accept l self.old.station.eui (arrived network octets.now)) result nothing self.new.station) }
+            (acceptance.accept l self.old.station.eui (arrived network octets.now)) result nothing self.new.station) }
         ensures beside { self.new ≡ record self.old { station = self.new.station } }
         ensures running { IfOk result (λ _. IsSome (node_of self.new).memory) }
         ensures holds { CoordinatorAgrees (node_of self.new) }
@@ -49,7 +49,7 @@ impl<K: Keeper + Drop> Coordinator<K> {
         requires holds { CoordinatorAgrees (node_of self.old) }
         ensures halted { IfNone self.old.station.memory ((result ≡ Err Unheard.Halted) × (out.new ≡ nothing) × (self.new ≡ self.old)) }
         ensures received { IfSome (node_of self.old).memory (λ m. Receives
-            (of_station m (accepting.accept m.station self.old.station.eui (arrived network octets.now)))
+            (of_station m (acceptance.accept m.station self.old.station.eui (arrived network octets.now)))
             (λ got k. rules.hear_coordinator (identity_of self.old) k got came.cost came.note came.time)
             (node_of self.old) result out.new (node_of self.new)) }
         ensures holds { CoordinatorAgrees (node_of self.new) }

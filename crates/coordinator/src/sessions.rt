@@ -9,7 +9,7 @@ ghost use Rattle.coordinator.specs.Tables.{session_in, placed, ended, is_full_fo
 use arrayvec::ArrayVec;
 use eap_psk::Server;
 use node_rules::{SESSION_TIME, Way};
-use plc_base::{Eui, Rand, earlier_end, is_within};
+use plc_base::{Eui, RandomOctets, earlier_end, is_within};
 use std::marker::Model;
 
 /// The coordinator's end of the joining of a meter, whose answers go this way, since a time in seconds.
@@ -37,7 +37,7 @@ impl Default for ServerSession {
             server: Server {
                 eui,
                 id_s: eui,
-                rand_s: Rand([0; 16]),
+                rand_s: RandomOctets([0; 16]),
                 rand_p: None,
             },
             way: Way::Air(eui),

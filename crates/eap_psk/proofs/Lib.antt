@@ -1,7 +1,7 @@
 pub mod Blocks
 pub mod Fronts
 pub mod Named
-pub mod Passing
+pub mod PassedMessages
 pub mod Relations
 pub mod Same
 pub mod PacketOctets

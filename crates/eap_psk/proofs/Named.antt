@@ -4,13 +4,13 @@ use Rattle.plc_base.specs.Fields.{after}
 use Rattle.plc_base.proofs.Places.{fronts_same}
 use Rattle.plc_base.specs.Grant.{Granted}
 use Rattle.plc_base.specs.declared.address.Eui.{Eui}
-use Rattle.plc_base.specs.declared.key.Rand.{Rand}
+use Rattle.plc_base.specs.declared.key.RandomOctets.{RandomOctets}
 use Rattle.joining_messages.specs.Grants.{IsGranted, grant_spelling}
 use Rattle.joining_messages.proofs.GrantLaws.{one_grant}
 use Rattle.eap_psk.specs.Keys.{channel, channel_text, mac_s}
 use Rattle.eap_psk.specs.Messages.{First, Third, head, third_head, fourth_head, granting_text}
 use Rattle.eap_psk.specs.Tags.{granting_tag, success_tag}
-use Rattle.eap_psk.proofs.Passing.{channel_back, channel_sealed}
+use Rattle.eap_psk.proofs.PassedMessages.{channel_back, channel_sealed}
 
 pub first_same : (i j : ℕ) (rand_s rand_s' id_s id_s' packet : List ℕ) → length rand_s ≡ 16 → length rand_s' ≡ 16
     → First i rand_s id_s packet → First j rand_s' id_s' packet → (i ≡ j) × (rand_s ≡ rand_s') × (id_s ≡ id_s')
@@ -43,14 +43,14 @@ third_same ak tek i j rand_s rand_p id_s g h packet len hg hh is is' =
     let inner = fronts_same mac mac (channel tek 0 a x) (channel tek 0 b y) refl outer.1 in
     texts_same g h hg hh (sealed_same tek 0 a b x y inner.1)
 
-rand_from : List ℕ → Rand
+rand_from : List ℕ → RandomOctets
 rand_from octets = record { 0 = octets }
 
-rand_same : (a b : Rand) → a.0 ≡ b.0 → a ≡ b
+rand_same : (a b : RandomOctets) → a.0 ≡ b.0 → a ≡ b
 unfolding rand_from
 rand_same a b e = ap rand_from e
 
-pub tags_same : (eui eui' : Eui) (i j : ℕ) (rand_s rand_s' rand_p rand_p' : Rand) (g h : Granted) → IsGranted g → IsGranted h
+pub tags_same : (eui eui' : Eui) (i j : ℕ) (rand_s rand_s' rand_p rand_p' : RandomOctets) (g h : Granted) → IsGranted g → IsGranted h
     → granting_tag eui i rand_s rand_p (granting_text g) ≡ granting_tag eui' j rand_s' rand_p' (granting_text h)
     → (eui ≡ eui') × (rand_s ≡ rand_s') × (rand_p ≡ rand_p') × (g ≡ h)
 tags_same eui eui' i j rand_s rand_s' rand_p rand_p' g h hg hh e =
@@ -61,7 +61,7 @@ tags_same eui eui' i j rand_s rand_s' rand_p rand_p' g h hg hh e =
     let given : rand_s.0 ≡ rand_s'.0 = cc (headers) in
     (node, rand_same rand_s rand_s' given, chosen, texts_same g h hg hh texts)
 
-pub successes_same : (eui eui' : Eui) (i j : ℕ) (rand_s rand_s' rand_p rand_p' : Rand)
+pub successes_same : (eui eui' : Eui) (i j : ℕ) (rand_s rand_s' rand_p rand_p' : RandomOctets)
     → success_tag eui i rand_s rand_p ≡ success_tag eui' j rand_s' rand_p' → (eui ≡ eui') × (rand_s ≡ rand_s') × (rand_p ≡ rand_p')
 successes_same eui eui' i j rand_s rand_s' rand_p rand_p' e =
     let node : eui ≡ eui' = cc (e) in

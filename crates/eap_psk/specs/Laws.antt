@@ -3,7 +3,7 @@ use Rattle.std.specs.Prelude.{◌≡◌, ◌≤◌, ◌<◌, ℕ, List, ◌++◌
 use Rattle.plc_base.specs.Fields.{AreOctets}
 use Rattle.plc_base.specs.Grant.{Granted}
 use Rattle.plc_base.specs.declared.address.Eui.{Eui}
-use Rattle.plc_base.specs.declared.key.Rand.{Rand}
+use Rattle.plc_base.specs.declared.key.RandomOctets.{RandomOctets}
 use Rattle.joining_messages.specs.Grants.{IsGranted, IsPlace}
 use Rattle.joining_messages.specs.Laws.{GrantHasOctets}
 use Rattle.eap_psk.specs.declared.server.Server.{Server}
@@ -60,7 +60,7 @@ FourthIsTaken =
 -- made, both hold the same.
 abbrev pub GrantingTagsAgree : Type 0
 GrantingTagsAgree =
-    (eui eui' : Eui) (i j : ℕ) (rand_s rand_s' rand_p rand_p' : Rand) (g h : Granted) → IsGranted g → IsGranted h
+    (eui eui' : Eui) (i j : ℕ) (rand_s rand_s' rand_p rand_p' : RandomOctets) (g h : Granted) → IsGranted g → IsGranted h
     → granting_tag eui i rand_s rand_p (granting_text g) ≡ granting_tag eui' j rand_s' rand_p' (granting_text h)
     → (eui ≡ eui') × (rand_s ≡ rand_s') × (rand_p ≡ rand_p') × (g ≡ h)
 
@@ -68,7 +68,7 @@ GrantingTagsAgree =
 -- both speak of one session.
 abbrev pub SuccessTagsAgree : Type 0
 SuccessTagsAgree =
-    (eui eui' : Eui) (i j : ℕ) (rand_s rand_s' rand_p rand_p' : Rand)
+    (eui eui' : Eui) (i j : ℕ) (rand_s rand_s' rand_p rand_p' : RandomOctets)
     → success_tag eui i rand_s rand_p ≡ success_tag eui' j rand_s' rand_p'
     → (eui ≡ eui') × (rand_s ≡ rand_s') × (rand_p ≡ rand_p')
 
@@ -94,7 +94,7 @@ FourthPacketsAreOctets =
     (psk : List ℕ) (identifier : ℕ) (peer : Peer) → AreOctets psk → identifier < 256 → AreOctets peer.rand_s.0
     → AreOctets (fourth_packet (keys_of psk) identifier peer)
 
--- # Sizes: of random values of at most 16 octets and names of 8 a packet has at most so many octets
+-- # Sizes: of random values of at most 16 octets and names of 8 a packet has at most this many octets
 
 abbrev pub FirstPacketsFit : Type 0
 FirstPacketsFit =

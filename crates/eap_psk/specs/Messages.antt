@@ -27,7 +27,7 @@ abbrev pub Second : List ℕ → ℕ → List ℕ → List ℕ → List ℕ → 
 Second ak identifier rand_s rand_p id_s id_p packet =
     packet ≡ head 2 identifier 62 1 rand_s ++ (rand_p ++ (mac_p ak id_p id_s rand_s rand_p ++ id_p))
 
--- the third message's header, which the channel's tag covers: of a text of so many octets
+-- the third message's header, which the channel's tag covers: of a text of this many octets
 abbrev pub third_head : ℕ → List ℕ → ℕ → List ℕ
 third_head identifier rand_s count = head 1 identifier (58 + count) 2 rand_s
 

@@ -3,8 +3,8 @@ use Rattle.std.specs.Prelude.{ℕ, List, ◌++◌, length, Option, Some}
 use Rattle.plc_base.specs.Fields.{after, octet, part}
 use Rattle.plc_base.specs.Grant.{Granted}
 use Rattle.plc_base.specs.declared.address.Eui.{Eui}
-use Rattle.plc_base.specs.declared.key.Rand.{Rand}
-use Rattle.joining_messages.specs.Reading.{grant_in}
+use Rattle.plc_base.specs.declared.key.RandomOctets.{RandomOctets}
+use Rattle.joining_messages.specs.Reader.{grant_in}
 use Rattle.eap_psk.specs.Keys.{PairKeys, mac_p, mac_s, transient_key, channel, channel_text}
 use Rattle.eap_psk.specs.Messages.{head, third_head, fourth_head, granting_text, success_text}
 use Rattle.eap_psk.specs.Faults.{rand_s_of, rand_p_of}
@@ -19,7 +19,7 @@ abbrev pub identifier_of : List ℕ → ℕ
 identifier_of packet = octet 1 packet
 
 -- the peer that answers a first packet
-abbrev pub peer_for : Eui → Rand → List ℕ → Peer
+abbrev pub peer_for : Eui → RandomOctets → List ℕ → Peer
 peer_for eui rand_p packet =
     record {
       eui = eui;
@@ -29,7 +29,7 @@ peer_for eui rand_p packet =
     }
 
 -- the RAND_P that a second packet names
-abbrev pub rand_p_in : List ℕ → Rand
+abbrev pub rand_p_in : List ℕ → RandomOctets
 rand_p_in packet = record { 0 = rand_p_of packet }
 
 -- the server that took a second packet
@@ -37,11 +37,11 @@ abbrev pub server_after : Server → List ℕ → Server
 server_after server packet = record server { rand_p = Some (rand_p_in packet) }
 
 -- the peer of a server's session, with this RAND_P
-abbrev pub peer_of : Server → Rand → Peer
+abbrev pub peer_of : Server → RandomOctets → Peer
 peer_of server rand_p = record { eui = server.eui; id_s = server.id_s; rand_s = server.rand_s; rand_p = rand_p }
 
 -- TEK of a session
-abbrev pub tek_of : PairKeys → Rand → List ℕ
+abbrev pub tek_of : PairKeys → RandomOctets → List ℕ
 tek_of keys rand_p = transient_key keys.kdk rand_p.0
 
 -- the grant in the channel of a third packet, after the flags and the type of the extension

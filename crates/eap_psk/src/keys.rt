@@ -4,7 +4,7 @@ ghost use Rattle.aes_modes.specs.Cipher.{xor_bytes};
 ghost use Rattle.eap_psk.specs.Keys.{numbered_block, derived, keys_of, transient_key};
 
 use aes_modes::Aes;
-use plc_base::{Key, Rand};
+use plc_base::{Key, RandomOctets};
 use std::marker::Model;
 
 /// The keys that a pair key gives: the authentication key AK and the key-derivation key KDK (RFC 4764, 3.1). A contract sees
@@ -63,7 +63,7 @@ impl PskKeys {
     }
 
     // TEK, the key of a session's protected channel (RFC 4764, 3.2).
-    pub(crate) fn transient(&self, rand_p: &Rand) -> Aes
+    pub(crate) fn transient(&self, rand_p: &RandomOctets) -> Aes
         ensures { result ≡ transient_key self.now.kdk rand_p.now.0 }
     {
         Aes::new(&derive(&self.kdk, &rand_p.0, 1))

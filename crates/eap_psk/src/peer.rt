@@ -13,7 +13,7 @@ use crate::reading::{check_code, check_same, first_of, granting_of, third_of};
 use crate::server::Agreed;
 use crate::writing::{fourth_header, granting_text, mac_p_input, mac_s_input, write_head};
 use aes_modes::cmac;
-use plc_base::{EapBuf, Eui, Grant, PairTag, Rand, TagList, TagText, rest_at};
+use plc_base::{EapBuf, Eui, Grant, PairTag, RandomOctets, TagList, TagText, rest_at};
 
 /// A session at the peer, which awaits the third message: the joining node's end of one EAP-PSK exchange.
 #[derive(Clone, Copy, Debug, PartialEq, Eq)]
@@ -23,9 +23,9 @@ pub struct Peer {
     /// ID_S: the EUI-64 that the server named itself by.
     pub id_s: Eui,
     /// RAND_S, which the server chose.
-    pub rand_s: Rand,
+    pub rand_s: RandomOctets,
     /// RAND_P, which the peer chose.
-    pub rand_p: Rand,
+    pub rand_p: RandomOctets,
 }
 
 impl Peer {
@@ -36,7 +36,7 @@ impl Peer {
     pub fn answer_first(
         keys: &PskKeys,
         eui: Eui,
-        rand_p: Rand,
+        rand_p: RandomOctets,
         packet: &[u8],
         out: &mut EapBuf,
         tags: &mut TagList,

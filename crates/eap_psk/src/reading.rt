@@ -2,13 +2,13 @@
 ghost use Rattle.std.specs.Prelude.{◌≡◌, ◌<◌, ◌≤◌, ◌+◌, ◌*◌, ◌++◌, length, true, false, MatchResult, Ok, Err, Some, None};
 ghost use Rattle.byteorder.specs.Endian.{big_bytes};
 ghost use Rattle.plc_base.specs.Fields.{after, octet, part};
-ghost use Rattle.joining_messages.specs.Reading.{grant_in};
+ghost use Rattle.joining_messages.specs.Reader.{grant_in};
 ghost use Rattle.eap_psk.specs.Messages.{First, granting_text, head};
 ghost use Rattle.eap_psk.specs.Faults.{same, is_granting, head_stands, is_first, is_second, is_third, is_fourth};
 
 use crate::fault::EapFault;
 use joining_messages::read_grant;
-use plc_base::{Eui, Grant, Rand, four_at, octet_at, octets_at, rest_at, two_at};
+use plc_base::{Eui, Grant, RandomOctets, four_at, octet_at, octets_at, rest_at, two_at};
 
 // Whether two octet strings are the same.
 #[tactic(auto, unfolding(crate::specs::Faults::same))]
@@ -53,7 +53,7 @@ pub(crate) fn check_code(code: &[u8; 16], right: &[u8; 16]) -> Result<(), EapFau
 #[derive(Clone, Copy)]
 struct Fields {
     identifier: u8,
-    rand_s: Rand,
+    rand_s: RandomOctets,
 }
 
 // What every message begins with: all of it, and the two fields that differ.
@@ -61,7 +61,7 @@ struct Fields {
 pub(crate) struct Head {
     pub(crate) octets: [u8; 22],
     pub(crate) identifier: u8,
-    pub(crate) rand_s: Rand,
+    pub(crate) rand_s: RandomOctets,
 }
 
 // The fields that differ, of the head of the message of this code and number.
@@ -80,7 +80,7 @@ fn fields_of(packet: &[u8], code: u8, number: u8) -> Result<Fields, EapFault>
     let count = two_at(packet, 2)?;
     let kind = octet_at(packet, 4)?;
     let flags = octet_at(packet, 5)?;
-    let rand_s = Rand(octets_at(packet, 6)?);
+    let rand_s = RandomOctets(octets_at(packet, 6)?);
     if first != code || count as usize != packet.len() || kind != 0x2F || flags != 64 * number {
         return Err(EapFault::Form);
     }
@@ -133,8 +133,8 @@ pub(crate) fn first_of(packet: &[u8]) -> Result<FirstMessage, EapFault>
 // The second message.
 #[derive(Clone, Copy)]
 pub(crate) struct SecondMessage {
-    pub(crate) rand_s: Rand,
-    pub(crate) rand_p: Rand,
+    pub(crate) rand_s: RandomOctets,
+    pub(crate) rand_p: RandomOctets,
     pub(crate) mac_p: [u8; 16],
     pub(crate) id_p: Eui,
 }
@@ -154,7 +154,7 @@ pub(crate) fn second_of(packet: &[u8]) -> Result<SecondMessage, EapFault>
     if head.identifier != 1 {
         return Err(EapFault::Form);
     }
-    let rand_p = Rand(octets_at(packet, 22)?);
+    let rand_p = RandomOctets(octets_at(packet, 22)?);
     let mac_p = octets_at(packet, 38)?;
     let id_p = Eui(octets_at(packet, 54)?);
     Ok(SecondMessage {

@@ -14,15 +14,15 @@ use crate::writing::{
     fourth_header, granting_text, mac_p_input, mac_s_input, third_header, write_head,
 };
 use aes_modes::cmac;
-use plc_base::{EapBuf, Eui, Grant, PairTag, PairTags, Rand, TagList, TagText, rest_at};
+use plc_base::{EapBuf, Eui, Grant, PairTag, PairTags, RandomOctets, TagList, TagText, rest_at};
 
 /// The random values of a session that both ends have shown to share.
 #[derive(Clone, Copy, Debug, PartialEq, Eq)]
 pub struct Agreed {
     /// The server's.
-    pub rand_s: Rand,
+    pub rand_s: RandomOctets,
     /// The peer's.
-    pub rand_p: Rand,
+    pub rand_p: RandomOctets,
 }
 
 /// A session at the server: the coordinator's end of one EAP-PSK exchange.
@@ -33,14 +33,14 @@ pub struct Server {
     /// ID_S: the coordinator's own EUI-64.
     pub id_s: Eui,
     /// RAND_S, which the server chose.
-    pub rand_s: Rand,
+    pub rand_s: RandomOctets,
     /// RAND_P, once the second message was taken.
-    pub rand_p: Option<Rand>,
+    pub rand_p: Option<RandomOctets>,
 }
 
 impl Server {
     /// Begins a session with the node of this EUI-64, and writes the first message, of 30 octets, which replaces what `out` held.
-    pub fn first(eui: Eui, id_s: Eui, rand_s: Rand, out: &mut EapBuf) -> Server
+    pub fn first(eui: Eui, id_s: Eui, rand_s: RandomOctets, out: &mut EapBuf) -> Server
         ensures server { result ≡ record { eui = eui; id_s = id_s; rand_s = rand_s; rand_p = None } }
         ensures message { First 1 rand_s.0 id_s.0 out.new }
     {
@@ -109,7 +109,7 @@ impl Server {
     fn write_third(
         &self,
         keys: &PskKeys,
-        rand_p: Rand,
+        rand_p: RandomOctets,
         grant: &Grant,
         out: &mut EapBuf,
         made: &mut PairTags,
@@ -172,7 +172,7 @@ impl Server {
     #[tactic(auto, unfolding(plc_base::specs::Fields::octet))]
     fn take_fourth_with(
         &self,
-        rand_p: Rand,
+        rand_p: RandomOctets,
         keys: &PskKeys,
         packet: &[u8],
         tags: &mut TagList,

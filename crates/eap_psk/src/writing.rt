@@ -4,7 +4,7 @@ ghost use Rattle.eap_psk.specs.Keys.{mac_p_text, mac_s_text};
 ghost use Rattle.eap_psk.specs.Messages.{fourth_head, granting_text, head, third_head};
 
 use joining_messages::write_grant;
-use plc_base::{EapBuf, Eui, Grant, Octets, Rand, TagText};
+use plc_base::{EapBuf, Eui, Grant, Octets, RandomOctets, TagText};
 
 // Appends what every message begins with.
 pub(crate) fn write_head<const N: usize>(
@@ -12,7 +12,7 @@ pub(crate) fn write_head<const N: usize>(
     identifier: u8,
     count: u16,
     number: u8,
-    rand_s: &Rand,
+    rand_s: &RandomOctets,
     out: &mut Octets<N>,
 )
     requires number { number ≤ 3 }
@@ -29,7 +29,12 @@ pub(crate) fn write_head<const N: usize>(
 }
 
 // What MAC_P is computed over.
-pub(crate) fn mac_p_input(id_p: &Eui, id_s: &Eui, rand_s: &Rand, rand_p: &Rand) -> TagText
+pub(crate) fn mac_p_input(
+    id_p: &Eui,
+    id_s: &Eui,
+    rand_s: &RandomOctets,
+    rand_p: &RandomOctets,
+) -> TagText
     ensures { result ≡ mac_p_text id_p.now.0 id_s.now.0 rand_s.now.0 rand_p.now.0 }
 {
     let mut text = TagText::new();
@@ -41,7 +46,7 @@ pub(crate) fn mac_p_input(id_p: &Eui, id_s: &Eui, rand_s: &Rand, rand_p: &Rand) 
 }
 
 // What MAC_S is computed over.
-pub(crate) fn mac_s_input(id_s: &Eui, rand_p: &Rand) -> TagText
+pub(crate) fn mac_s_input(id_s: &Eui, rand_p: &RandomOctets) -> TagText
     ensures { result ≡ mac_s_text id_s.now.0 rand_p.now.0 }
 {
     let mut text = TagText::new();
@@ -51,7 +56,7 @@ pub(crate) fn mac_s_input(id_s: &Eui, rand_p: &Rand) -> TagText
 }
 
 // The header of the third message, whose channel has this plain text.
-pub(crate) fn third_header(identifier: u8, rand_s: &Rand, text: &[u8]) -> TagText
+pub(crate) fn third_header(identifier: u8, rand_s: &RandomOctets, text: &[u8]) -> TagText
     requires { length text.now ≤ 64 }
     ensures spelled { result ≡ third_head identifier rand_s.now.0 (length text.now) }
     ensures length { length result ≡ 22 }
@@ -69,7 +74,7 @@ pub(crate) fn third_header(identifier: u8, rand_s: &Rand, text: &[u8]) -> TagTex
 }
 
 // The header of the fourth message.
-pub(crate) fn fourth_header(identifier: u8, rand_s: &Rand) -> TagText
+pub(crate) fn fourth_header(identifier: u8, rand_s: &RandomOctets) -> TagText
     ensures spelled { result ≡ fourth_head identifier rand_s.now.0 }
     ensures length { length result ≡ 22 }
 {

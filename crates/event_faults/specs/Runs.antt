@@ -8,10 +8,10 @@ use Rattle.line_events.specs.declared.event.Answer.{Answer}
 use Rattle.line_events.specs.declared.event.Answer.TheVariants as answers
 use Rattle.line_events.specs.declared.event.Event.{Event}
 use Rattle.line_events.specs.declared.event.Event.TheVariants as events
-use Rattle.line_tale.specs.declared.act.Act.{Act}
-use Rattle.line_tale.specs.declared.act.Act.TheVariants as acts
-use Rattle.line_tale.specs.declared.told.TaleEvent.{TaleEvent}
-use Rattle.line_tale.specs.Kinds.{is_refused}
+use Rattle.line_record.specs.declared.act.Act.{Act}
+use Rattle.line_record.specs.declared.act.Act.TheVariants as acts
+use Rattle.line_record.specs.declared.recorded.RecordedEvent.{RecordedEvent}
+use Rattle.line_record.specs.Kinds.{is_refused}
 use Rattle.event_faults.specs.declared.run.Made.{Made}
 use Rattle.event_faults.specs.declared.run.Named.{Named}
 use Rattle.event_faults.specs.declared.run.Place.{Place}
@@ -19,7 +19,7 @@ use Rattle.event_faults.specs.declared.run.Place.TheVariants.{Second, Third}
 use Rattle.event_faults.specs.declared.run.Wanted.{Wanted}
 use Rattle.event_faults.specs.declared.run.Wanted.TheVariants.{Joined, Near, Lost}
 
--- The first event that is none of the setup: its line, 0 where there is none, and the first of its octets.
+-- The first event that is not part of the setup: its line, 0 if there is none, and the first of its octets.
 pub record Other : Type 0 where
   pub row : ℕ
   pub text : List ℕ
@@ -35,7 +35,7 @@ first_named (events.Near a b cost) = naming Second a
 first_named (events.Counter node value) = naming Second node
 first_named (events.Number node value) = naming Second node
 first_named (events.Allow node) = naming Second node
-first_named (events.Rand node value) = naming Second node
+first_named (events.RandomOctets node value) = naming Second node
 first_named (events.Join node agent) = naming Second node
 first_named (events.Leave node) = naming Second node
 first_named (events.Send from to datagram) = naming Second from
@@ -99,13 +99,13 @@ act_is (acts.Near a b) _ (Near x y) = are a b x y
 act_is (acts.Lose flight) how (Lost number) = flight == number && is_lost how
 act_is _ _ _ = false
 
--- the line of the first such event, 0 where there is none
-abbrev pub row_of : Wanted → List TaleEvent → ℕ
+-- the line of the first such event, 0 if there is none
+abbrev pub row_of : Wanted → List RecordedEvent → ℕ
 row_of wanted [] = 0
 row_of wanted (e ∷ es) = if act_is e.act e.answer wanted then e.line else row_of wanted es
 
 -- the line that joined a node, 0 where none did
-abbrev pub joined_row : List Made → List TaleEvent → ℕ → ℕ
+abbrev pub joined_row : List Made → List RecordedEvent → ℕ → ℕ
 joined_row made es meter = if meter == 0 then made_row made 0 else row_of (Joined meter) es
 
 abbrev pub is_neighbour : ℕ → Act → Bool
@@ -113,17 +113,17 @@ is_neighbour node (acts.Near a b) = a == node || b == node
 is_neighbour node _ = false
 
 -- how many neighbours a node was given
-abbrev pub neighbours : List TaleEvent → ℕ → ℕ
-neighbours es node = count_by (λ (e : TaleEvent). is_neighbour node e.act) es
+abbrev pub neighbours : List RecordedEvent → ℕ → ℕ
+neighbours es node = count_by (λ (e : RecordedEvent). is_neighbour node e.act) es
 
 -- whether an event sent a flight
-abbrev pub sent_it : ℕ → TaleEvent → Bool
+abbrev pub sent_it : ℕ → RecordedEvent → Bool
 sent_it flight e = nat_le e.first_flight flight && nat_lt (flight - e.first_flight) e.flights
 
--- the number of the last refusal, from 1, after those before this place; 0 where there is none
-abbrev pub refusal_from : ℕ → ℕ → List TaleEvent → ℕ
+-- the number of the last refusal, from 1, after those before this place; 0 if there is none
+abbrev pub refusal_from : ℕ → ℕ → List RecordedEvent → ℕ
 refusal_from at last [] = last
 refusal_from at last (e ∷ es) = refusal_from (at + 1) (if is_refused e.answer then at + 1 else last) es
 
-unfoldable pub last_refusal : List TaleEvent → ℕ
+unfoldable pub last_refusal : List RecordedEvent → ℕ
 last_refusal es = refusal_from 0 0 es

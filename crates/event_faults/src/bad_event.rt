@@ -11,8 +11,8 @@ use crate::run::{
     neighbours, node_with, row_of, second_named, sending_of,
 };
 use line_events::Event;
+use line_record::{RecordedEvent, act_of, is_setup};
 use line_script::{Reason, answer_word};
-use line_tale::{TaleEvent, act_of, is_setup};
 use plc_base::Eui;
 use script_findings::{Finding, rest_at, word_at, word_length};
 use sentence_parts::{Part, node, number, octets, words};
@@ -29,12 +29,12 @@ pub struct BadEvent<'a> {
     /// The nodes that were made, in their order.
     pub made: &'a [Made],
     /// The events that were taken, in their order.
-    pub events: &'a [TaleEvent],
+    pub events: &'a [RecordedEvent],
     /// How many flights were sent.
     pub flights: u32,
     /// The node that sent the last of them.
     pub sender: u16,
-    /// The line of the first event that is none of the setup, 0 where there is none.
+    /// The line of the first event that is not part of the setup, 0 if there is none.
     pub other_row: u32,
     /// Its octets.
     pub other_text: &'a [u8],
@@ -94,17 +94,17 @@ fn found(
 }
 
 #[tactic(auto, unfolding(crate::specs::EventFindings::by_line))]
-fn by_line(alloc: Global, row: u32, told: Finding) -> Result<Finding, AllocError>
-    ensures { IfOk result (λ f. f ≡ noted (findings.by_line row) told) }
+fn by_line(alloc: Global, row: u32, so_far: Finding) -> Result<Finding, AllocError>
+    ensures { IfOk result (λ f. f ≡ noted (findings.by_line row) so_far) }
 {
-    told.with(alloc, &[words("by line "), number(row as usize)])
+    so_far.with(alloc, &[words("by line "), number(row as usize)])
 }
 
 #[tactic(auto, unfolding(crate::specs::EventFindings::put_depot))]
-fn put_depot(alloc: Global, meter: u32, told: Finding) -> Result<Finding, AllocError>
-    ensures { IfOk result (λ f. f ≡ noted (findings.put_depot meter) told) }
+fn put_depot(alloc: Global, meter: u32, so_far: Finding) -> Result<Finding, AllocError>
+    ensures { IfOk result (λ f. f ≡ noted (findings.put_depot meter) so_far) }
 {
-    told.with(
+    so_far.with(
         alloc,
         &[
             words("put `depot "),
@@ -138,12 +138,12 @@ impl<'a> BadEvent<'a> {
     }
 
     #[tactic(auto, unfolding(crate::specs::EventFindings::numbering_note))]
-    fn with_numbering(&self, alloc: Global, told: Finding) -> Result<Finding, AllocError>
-        ensures { IfOk result (λ f. f ≡ noted (findings.numbering_note self.now) told) }
+    fn with_numbering(&self, alloc: Global, so_far: Finding) -> Result<Finding, AllocError>
+        ensures { IfOk result (λ f. f ≡ noted (findings.numbering_note self.now) so_far) }
     {
         let last = last_of(self.made);
         let row = made_row(self.made, last);
-        told.with(
+        so_far.with(
             alloc,
             &[
                 words("nodes are numbered from 0 in the order of their lines; node "),
@@ -157,8 +157,8 @@ impl<'a> BadEvent<'a> {
     fn no_node(&self, alloc: Global, named: Named) -> Result<Finding, AllocError>
         ensures { IfOk result (λ f. f ≡ findings.no_node self.now named) }
     {
-        let told = self.no_node_word(alloc, named)?;
-        self.with_numbering(alloc, told)
+        let so_far = self.no_node_word(alloc, named)?;
+        self.with_numbering(alloc, so_far)
     }
 
     #[tactic(auto, unfolding(crate::specs::EventFindings::for_a_meter))]
@@ -239,11 +239,11 @@ impl<'a> BadEvent<'a> {
     }
 
     #[tactic(auto, unfolding(crate::specs::EventFindings::made_note))]
-    fn with_made(&self, alloc: Global, other: usize, told: Finding) -> Result<Finding, AllocError>
-        ensures { IfOk result (λ f. f ≡ noted (findings.made_note self.now other) told) }
+    fn with_made(&self, alloc: Global, other: usize, so_far: Finding) -> Result<Finding, AllocError>
+        ensures { IfOk result (λ f. f ≡ noted (findings.made_note self.now other) so_far) }
     {
         let row = made_row(self.made, other);
-        told.with(
+        so_far.with(
             alloc,
             &[
                 words("node "),
@@ -260,8 +260,8 @@ impl<'a> BadEvent<'a> {
         let Some(other) = node_with(self.made, eui) else {
             return self.too_many_nodes(alloc);
         };
-        let told = self.same_eui(alloc, other)?;
-        self.with_made(alloc, other, told)
+        let so_far = self.same_eui(alloc, other)?;
+        self.with_made(alloc, other, so_far)
     }
 
     #[tactic(auto, unfolding(crate::specs::EventFindings::joined_from_start))]
@@ -291,11 +291,11 @@ impl<'a> BadEvent<'a> {
     }
 
     #[tactic(auto, unfolding(crate::specs::EventFindings::joined_note))]
-    fn with_joined(&self, alloc: Global, meter: u32, told: Finding) -> Result<Finding, AllocError>
-        ensures { IfOk result (λ f. f ≡ noted (findings.joined_note self.now meter) told) }
+    fn with_joined(&self, alloc: Global, meter: u32, so_far: Finding) -> Result<Finding, AllocError>
+        ensures { IfOk result (λ f. f ≡ noted (findings.joined_note self.now meter) so_far) }
     {
         let row = joined_row(self.made, self.events, meter);
-        told.with(
+        so_far.with(
             alloc,
             &[words("it was joined in line "), number(row as usize)],
         )
@@ -307,8 +307,8 @@ impl<'a> BadEvent<'a> {
         if meter == 0 {
             return self.joined_from_start(alloc);
         }
-        let told = self.joined_already(alloc, meter)?;
-        self.with_joined(alloc, meter, told)
+        let so_far = self.joined_already(alloc, meter)?;
+        self.with_joined(alloc, meter, so_far)
     }
 
     #[tactic(auto, unfolding(crate::specs::EventFindings::not_joined_word))]
@@ -332,8 +332,8 @@ impl<'a> BadEvent<'a> {
     fn not_joined(&self, alloc: Global, place: Place, meter: u32) -> Result<Finding, AllocError>
         ensures { IfOk result (λ f. f ≡ findings.not_joined self.now place meter) }
     {
-        let told = self.not_joined_word(alloc, place, meter)?;
-        put_depot(alloc, meter, told)
+        let so_far = self.not_joined_word(alloc, place, meter)?;
+        put_depot(alloc, meter, so_far)
     }
 
     #[tactic(auto, unfolding(crate::specs::EventFindings::near_itself))]
@@ -398,8 +398,8 @@ impl<'a> BadEvent<'a> {
         ensures { IfOk result (λ f. f ≡ findings.near_by row self.now x y) }
     {
         if 0 < row {
-            let told = self.near_already(alloc, x, y)?;
-            return by_line(alloc, row, told);
+            let so_far = self.near_already(alloc, x, y)?;
+            return by_line(alloc, row, so_far);
         }
         self.full_finding(alloc, x, y)
     }
@@ -442,12 +442,12 @@ impl<'a> BadEvent<'a> {
     }
 
     #[tactic(auto, unfolding(crate::specs::EventFindings::late_note))]
-    fn with_other(&self, alloc: Global, told: Finding) -> Result<Finding, AllocError>
-        ensures { IfOk result (λ f. f ≡ noted (findings.late_note self.now) told) }
+    fn with_other(&self, alloc: Global, so_far: Finding) -> Result<Finding, AllocError>
+        ensures { IfOk result (λ f. f ≡ noted (findings.late_note self.now) so_far) }
     {
         let row = self.other_row;
         let text = self.other_text;
-        told.with(
+        so_far.with(
             alloc,
             &[
                 words("line "),
@@ -462,8 +462,8 @@ impl<'a> BadEvent<'a> {
     fn late_setup(&self, alloc: Global) -> Result<Finding, AllocError>
         ensures { IfOk result (λ f. f ≡ noted (findings.late_note self.now) (findings.late_word self.now)) }
     {
-        let told = self.late_word(alloc)?;
-        self.with_other(alloc, told)
+        let so_far = self.late_word(alloc)?;
+        self.with_other(alloc, so_far)
     }
 
     #[tactic(auto, unfolding(crate::specs::EventFindings::second_coordinator))]
@@ -480,11 +480,11 @@ impl<'a> BadEvent<'a> {
     }
 
     #[tactic(auto, unfolding(crate::specs::EventFindings::first_is_in))]
-    fn with_first(&self, alloc: Global, told: Finding) -> Result<Finding, AllocError>
-        ensures { IfOk result (λ f. f ≡ noted (findings.first_is_in self.now) told) }
+    fn with_first(&self, alloc: Global, so_far: Finding) -> Result<Finding, AllocError>
+        ensures { IfOk result (λ f. f ≡ noted (findings.first_is_in self.now) so_far) }
     {
         let row = made_row(self.made, 0);
-        told.with(
+        so_far.with(
             alloc,
             &[words("the first is in line "), number(row as usize)],
         )
@@ -493,8 +493,8 @@ impl<'a> BadEvent<'a> {
     fn coordinator_finding(&self, alloc: Global) -> Result<Finding, AllocError>
         ensures { IfOk result (λ f. f ≡ noted (findings.first_is_in self.now) (findings.second_coordinator self.now)) }
     {
-        let told = self.second_coordinator(alloc)?;
-        self.with_first(alloc, told)
+        let so_far = self.second_coordinator(alloc)?;
+        self.with_first(alloc, so_far)
     }
 
     #[tactic(auto, unfolding(crate::specs::EventFindings::no_coordinator))]
@@ -630,14 +630,14 @@ impl<'a> BadEvent<'a> {
         alloc: Global,
         place: usize,
         row: u32,
-        told: Finding,
+        so_far: Finding,
     ) -> Result<Finding, AllocError>
         requires { place < 2 ^ 64 - 1 }
-        ensures { IfOk result (λ f. f ≡ noted (findings.last_note self.now place row) told) }
+        ensures { IfOk result (λ f. f ≡ noted (findings.last_note self.now place row) so_far) }
     {
         let last = self.flights;
         let sender = self.sender;
-        told.with(
+        so_far.with(
             alloc,
             &[
                 words("flight "),
@@ -654,33 +654,33 @@ impl<'a> BadEvent<'a> {
 
     // With the last flight.
     #[tactic(auto, unfolding(crate::specs::EventFindings::with_last))]
-    fn with_last(&self, alloc: Global, told: Finding) -> Result<Finding, AllocError>
-        ensures { IfOk result (λ f. f ≡ findings.with_last self.now told) }
+    fn with_last(&self, alloc: Global, so_far: Finding) -> Result<Finding, AllocError>
+        ensures { IfOk result (λ f. f ≡ findings.with_last self.now so_far) }
     {
         match sending_of(self.events, self.flights) {
-            None => Ok(told),
-            Some(place) => self.with_last_at(alloc, place, self.line_of(place), told),
+            None => Ok(so_far),
+            Some(place) => self.with_last_at(alloc, place, self.line_of(place), so_far),
         }
     }
 
     // With the last refusal.
     #[tactic(auto, unfolding(crate::specs::EventFindings::with_refusal))]
-    fn with_refusal(&self, alloc: Global, told: Finding) -> Result<Finding, AllocError>
-        ensures { IfOk result (λ f. f ≡ findings.with_refusal self.now told) }
+    fn with_refusal(&self, alloc: Global, so_far: Finding) -> Result<Finding, AllocError>
+        ensures { IfOk result (λ f. f ≡ findings.with_refusal self.now so_far) }
     {
-        with_refusal_at(alloc, last_refusal(self.events), self.events, told)
+        with_refusal_at(alloc, last_refusal(self.events), self.events, so_far)
     }
 
     fn flight_by(&self, alloc: Global, row: u32, flight: u32) -> Result<Finding, AllocError>
         ensures { IfOk result (λ f. f ≡ findings.flight_by row flight self.now) }
     {
         if 0 < row {
-            let told = self.lost_word(alloc, flight)?;
-            return by_line(alloc, row, told);
+            let so_far = self.lost_word(alloc, flight)?;
+            return by_line(alloc, row, so_far);
         }
-        let told = self.no_flight(alloc, flight)?;
-        let told = self.with_last(alloc, told)?;
-        self.with_refusal(alloc, told)
+        let so_far = self.no_flight(alloc, flight)?;
+        let so_far = self.with_last(alloc, so_far)?;
+        self.with_refusal(alloc, so_far)
     }
 
     #[tactic(auto, unfolding(crate::specs::EventFindings::flight_finding))]
@@ -711,8 +711,8 @@ impl<'a> BadEvent<'a> {
     fn events_finding(&self, alloc: Global) -> Result<Finding, AllocError>
         ensures { IfOk result (λ f. f ≡ noted findings.cut_it (findings.too_many self.now)) }
     {
-        let told = self.too_many(alloc)?;
-        told.with(alloc, &[words("cut the script in two")])
+        let so_far = self.too_many(alloc)?;
+        so_far.with(alloc, &[words("cut the script in two")])
     }
 
     /// What is wrong with the event, by the reason why the run does not take it.
@@ -734,13 +734,13 @@ impl<'a> BadEvent<'a> {
 fn with_refused(
     alloc: Global,
     last: usize,
-    event: &TaleEvent,
-    told: Finding,
+    event: &RecordedEvent,
+    so_far: Finding,
 ) -> Result<Finding, AllocError>
-    ensures { IfOk result (λ f. f ≡ noted (findings.refusal_note last event.now) told) }
+    ensures { IfOk result (λ f. f ≡ noted (findings.refusal_note last event.now) so_far) }
 {
     let word = answer_word(event.answer);
-    told.with(
+    so_far.with(
         alloc,
         &[
             words("event "),
@@ -756,15 +756,15 @@ fn with_refused(
 
 fn with_event(
     alloc: Global,
-    event: Option<&TaleEvent>,
+    event: Option<&RecordedEvent>,
     last: usize,
-    told: Finding,
+    so_far: Finding,
 ) -> Result<Finding, AllocError>
-    ensures { IfOk result (λ f. f ≡ findings.with_refusal_by (option_copied event.entry) last told) }
+    ensures { IfOk result (λ f. f ≡ findings.with_refusal_by (option_copied event.entry) last so_far) }
 {
     match event {
-        None => Ok(told),
-        Some(found) => with_refused(alloc, last, found, told),
+        None => Ok(so_far),
+        Some(found) => with_refused(alloc, last, found, so_far),
     }
 }
 
@@ -772,13 +772,13 @@ fn with_event(
 fn with_refusal_at(
     alloc: Global,
     last: usize,
-    events: &[TaleEvent],
-    told: Finding,
+    events: &[RecordedEvent],
+    so_far: Finding,
 ) -> Result<Finding, AllocError>
-    ensures { IfOk result (λ f. f ≡ findings.with_refusal_at last events.now told) }
+    ensures { IfOk result (λ f. f ≡ findings.with_refusal_at last events.now so_far) }
 {
     if last == 0 {
-        return Ok(told);
+        return Ok(so_far);
     }
-    with_event(alloc, events.get(last - 1), last, told)
+    with_event(alloc, events.get(last - 1), last, so_far)
 }

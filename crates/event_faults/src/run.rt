@@ -4,7 +4,7 @@ ghost use Rattle.line_events.specs.declared.event.Answer.{Answer};
 ghost use Rattle.event_faults.specs.Runs as runs;
 
 use line_events::{Answer, Event};
-use line_tale::{Act, TaleEvent, is_refused};
+use line_record::{Act, RecordedEvent, is_refused};
 use plc_base::Eui;
 use std::alloc::{AllocError, Global};
 use std::marker::Model;
@@ -18,10 +18,10 @@ pub struct Made {
     pub row: u32,
 }
 
-/// The first event that is none of the setup. A contract sees its line and its octets.
+/// The first event that is not part of the setup. A contract sees its line and its octets.
 #[derive(Drop)]
 pub struct FirstOther {
-    // The number of its line, 0 where there is none.
+    // The number of its line, 0 if there is none.
     row: u32,
     // Its octets, at most 60.
     text: Vec<u8>,
@@ -48,7 +48,7 @@ impl FirstOther {
         }
     }
 
-    /// The number of its line, 0 where there is none.
+    /// The number of its line, 0 if there is none.
     pub fn row(&self) -> u32
         ensures { result ≡ self.now.row }
     {
@@ -108,7 +108,7 @@ pub fn first_named(event: &Event<'_>) -> Option<Named>
         Event::Counter { node, .. } => naming(Place::Second, *node),
         Event::Number { node, .. } => naming(Place::Second, *node),
         Event::Allow { node } => naming(Place::Second, *node),
-        Event::Rand { node, .. } => naming(Place::Second, *node),
+        Event::RandomOctets { node, .. } => naming(Place::Second, *node),
         Event::Join { node, .. } => naming(Place::Second, *node),
         Event::Leave { node } => naming(Place::Second, *node),
         Event::Send { from, .. } => naming(Place::Second, *from),
@@ -234,8 +234,8 @@ fn act_is(act: &Act, answer: Answer, wanted: &Wanted) -> bool
     }
 }
 
-/// The line of the first such event, 0 where there is none.
-pub fn row_of(wanted: &Wanted, events: &[TaleEvent]) -> u32
+/// The line of the first such event, 0 if there is none.
+pub fn row_of(wanted: &Wanted, events: &[RecordedEvent]) -> u32
     ensures { result ≡ runs.row_of wanted.now events.now }
 {
     for event in events {
@@ -247,7 +247,7 @@ pub fn row_of(wanted: &Wanted, events: &[TaleEvent]) -> u32
 }
 
 /// The line that joined a node, 0 where none did.
-pub fn joined_row(made: &[Made], events: &[TaleEvent], meter: u32) -> u32
+pub fn joined_row(made: &[Made], events: &[RecordedEvent], meter: u32) -> u32
     ensures { result ≡ runs.joined_row made.now events.now meter }
 {
     if meter == 0 {
@@ -273,7 +273,7 @@ fn one_if(test: bool) -> usize
 }
 
 /// How many neighbours a node was given.
-pub fn neighbours(events: &[TaleEvent], node: u32) -> usize
+pub fn neighbours(events: &[RecordedEvent], node: u32) -> usize
     ensures { result ≡ runs.neighbours events.now node }
 {
     let mut count = 0;
@@ -283,14 +283,14 @@ pub fn neighbours(events: &[TaleEvent], node: u32) -> usize
     count
 }
 
-fn sent_it(flight: u32, event: &TaleEvent) -> bool
+fn sent_it(flight: u32, event: &RecordedEvent) -> bool
     ensures { result ≡ runs.sent_it flight event.now }
 {
     event.first_flight <= flight && flight - event.first_flight < u32::from(event.flights)
 }
 
 /// The place of the event that sent a flight.
-pub fn sending_of(events: &[TaleEvent], flight: u32) -> Option<usize>
+pub fn sending_of(events: &[RecordedEvent], flight: u32) -> Option<usize>
     ensures sending { result ≡ position (runs.sent_it flight) events.now }
     ensures within { IfSome result (λ place. place < length events.now) }
 {
@@ -305,7 +305,7 @@ fn later(is: bool, number: usize, last: usize) -> usize
 
 /// The number of the last event that was refused, from 1. 0 where none was.
 #[tactic(auto, unfolding(crate::specs::Runs::last_refusal))]
-pub fn last_refusal(events: &[TaleEvent]) -> usize
+pub fn last_refusal(events: &[RecordedEvent]) -> usize
     ensures { result ≡ runs.last_refusal events.now }
 {
     let mut last = 0;

@@ -7,8 +7,8 @@ use Rattle.line_events.specs.declared.event.Answer.TheVariants as answers
 use Rattle.line_events.specs.declared.happenings.Handed.{Handed}
 use Rattle.line_events.specs.Answers.{is_ok}
 use Rattle.line_rules.specs.Runs.{Entry}
-use Rattle.line_tale.specs.declared.told.TaleEvent.{TaleEvent}
-use Rattle.line_tale.specs.Tales.{note_of}
+use Rattle.line_record.specs.declared.recorded.RecordedEvent.{RecordedEvent}
+use Rattle.line_record.specs.RunRecords.{note_of}
 use Rattle.event_sentences.specs.declared.claim.Deed.TheVariants as deeds
 use Rattle.event_sentences.specs.declared.heard.Heard.{Heard}
 use Rattle.event_sentences.specs.Claims.{deed_text}
@@ -35,16 +35,17 @@ by_note : (x : Entry) (up : Option Handed) → answer_of x ≡ answers.Up → se
 by_note x None up is = (up, is)
 by_note x (Some handed) up is = by_test x handed.note (handed.note == 0) refl up is
 
-said_so : (s : Scene) (heard : Heard) → s.heard ≡ Some heard → s.told.answer ≡ answers.Up → event_text s ≡ deed_text s.node (handed_up s.told.up)
+said_so : (s : Scene) (heard : Heard) → s.heard ≡ Some heard → s.recorded.answer ≡ answers.Up → event_text s ≡ deed_text s.node (handed_up s.recorded.up)
 unfolding event_text
 said_so s heard came up =
-    subst (λ (o : Option Heard). (if is_ok s.told.answer then done_by o s else refused_by o s) ≡ deed_text s.node (handed_up s.told.up)) (sym came)
-    (subst (λ (a : Answer). (if is_ok a then taken_text a heard s else refused_frame_text a heard s) ≡ deed_text s.node (handed_up s.told.up)) (sym up) refl)
+    subst (λ (o : Option Heard). (if is_ok s.recorded.answer then done_by o s else refused_by o s) ≡ deed_text s.node (handed_up s.recorded.up)) (sym came)
+    (subst (λ (a : Answer). (if is_ok a then taken_text a heard s else refused_frame_text a heard s) ≡ deed_text s.node (handed_up s.recorded.up)) (sym up)
+    refl)
 
 pub ups_are_true : UpsAreTrue
-ups_are_true x line clock same s heard told came up =
-    let note : s.told.up ≡ note_of x.trace.happenings.up = ap (λ (e : TaleEvent). e.up) told in (
-      handed_up s.told.up,
+ups_are_true x line clock same s heard recorded came up =
+    let note : s.recorded.up ≡ note_of x.trace.happenings.up = ap (λ (e : RecordedEvent). e.up) recorded in (
+      handed_up s.recorded.up,
       subst (λ (u : Option ℕ). IsTrueOf x (handed_up u)) (sym note) (by_note x x.trace.happenings.up up refl),
-      said_so s heard came (ap (λ (e : TaleEvent). e.answer) told ∙ up),
+      said_so s heard came (ap (λ (e : RecordedEvent). e.answer) recorded ∙ up),
     )

@@ -3,8 +3,8 @@ use Rattle.std.specs.Prelude.{ℕ, ◌==◌, List, [], ◌∷◌, length, codes,
 use Rattle.line_events.specs.declared.event.Answer.{Answer}
 use Rattle.line_events.specs.declared.event.Answer.TheVariants as answers
 use Rattle.line_script.specs.AnswerWords.{answer_word}
-use Rattle.line_tale.specs.declared.act.Act.{Act}
-use Rattle.line_tale.specs.declared.act.Act.TheVariants as acts
+use Rattle.line_record.specs.declared.act.Act.{Act}
+use Rattle.line_record.specs.declared.act.Act.TheVariants as acts
 use Rattle.sentence_parts.specs.declared.part.Part.TheVariants.{Words, Number, Node, Place, Short}
 use Rattle.sentence_parts.specs.Parts.{parts_text}
 use Rattle.event_sentences.specs.declared.flights.Meant.TheVariants as meants
@@ -75,7 +75,7 @@ asked_further_text (acts.Bcast node octets) s = with_flights (Node s.node ∷ Wo
 asked_further_text (acts.Scan node) s = with_flights (Node s.node ∷ Words (codes " looks for agents") ∷ []) s
 asked_further_text (acts.Choose node k) s = chooses_text k s
 asked_further_text (acts.Path from to) s = with_flights (Node s.node ∷ Words (codes " asks for the way to ") ∷ Node to ∷ []) s
-asked_further_text _ s = parts_text (Words (answer_word s.told.answer) ∷ [])
+asked_further_text _ s = parts_text (Words (answer_word s.recorded.answer) ∷ [])
 
 abbrev pub ordered_text : Act → Scene → List ℕ
 ordered_text (acts.Challenge node) s = challenged_text node s
@@ -84,9 +84,9 @@ ordered_text (acts.Kick node) s = kicked_text node s
 ordered_text act s = asked_further_text act s
 
 abbrev pub asked_text : Act → Scene → List ℕ
-asked_text (acts.Send from to octets) s = sent_text s.told.answer to s
-asked_text (acts.Allow node) s = allowed_text node s.told.address
-asked_text (acts.Rand node) s = parts_text (Node s.node ∷ Words (codes " has one more random value") ∷ [])
+asked_text (acts.Send from to octets) s = sent_text s.recorded.answer to s
+asked_text (acts.Allow node) s = allowed_text node s.recorded.address
+asked_text (acts.RandomOctets node) s = parts_text (Node s.node ∷ Words (codes " has one more random value") ∷ [])
 asked_text (acts.Join node agent) s = asks_to_join_text agent s
 asked_text (acts.Leave node) s = parts_text (Node s.node ∷ Words (codes " forgets its address and keys") ∷ [])
 asked_text (acts.Lose flight) s = parts_text (Words (codes "flight ") ∷ Number flight ∷ Words (codes " is lost") ∷ [])

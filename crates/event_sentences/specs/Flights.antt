@@ -7,7 +7,7 @@ use Rattle.frame_words.specs.declared.gist.Gist.{Gist}
 use Rattle.frame_words.specs.declared.gist.Gist.TheVariants as gists
 use Rattle.frame_words.specs.declared.kind.PayloadKind.{PayloadKind}
 use Rattle.frame_words.specs.declared.kind.PayloadKind.TheVariants as kinds
-use Rattle.line_tale.specs.declared.told.TaleFlight.{TaleFlight}
+use Rattle.line_record.specs.declared.recorded.RecordedFlight.{RecordedFlight}
 use Rattle.sentence_parts.specs.declared.part.Who.{Who}
 use Rattle.sentence_parts.specs.declared.part.Who.TheVariants.{Nobody}
 use Rattle.sentence_parts.specs.declared.part.Part.TheVariants.{Words, Number}
@@ -31,26 +31,26 @@ abbrev pub is_reply : PayloadKind → Bool
 is_reply kinds.RouteReply = true
 is_reply _ = false
 
-abbrev pub is_meant : Meant → TaleFlight → Bool
+abbrev pub is_meant : Meant → RecordedFlight → Bool
 is_meant meants.All flight = true
 is_meant meants.Requests flight = is_request flight.kind
 is_meant meants.Replies flight = is_reply flight.kind
 is_meant meants.Waiting flight = waited flight.gist
 
-abbrev pub meant_number : Meant → ℕ → TaleFlight → List ℕ
+abbrev pub meant_number : Meant → ℕ → RecordedFlight → List ℕ
 meant_number meant number flight = if is_meant meant flight then number ∷ [] else []
 
 -- the numbers of those that are meant, of flights from a number on
-abbrev pub meant_from : Meant → ℕ → List TaleFlight → List ℕ
+abbrev pub meant_from : Meant → ℕ → List RecordedFlight → List ℕ
 meant_from meant number [] = []
 meant_from meant number (flight ∷ rest) = meant_number meant number flight ++ meant_from meant (number + 1) rest
 
 -- whom the first is for that is meant
-abbrev pub target_of : Option TaleFlight → List ℕ → List Eui → Who
+abbrev pub target_of : Option RecordedFlight → List ℕ → List Eui → Who
 target_of None homes euis = Nobody
 target_of (Some flight) homes euis = who_of flight.target homes euis
 
-abbrev pub first_target : Meant → List TaleFlight → List ℕ → List Eui → Who
+abbrev pub first_target : Meant → List RecordedFlight → List ℕ → List Eui → Who
 first_target meant made homes euis = target_of (find (is_meant meant) made) homes euis
 
 -- # Their names
@@ -67,7 +67,7 @@ listed_text (first ∷ rest) = (codes "flights " ++ decimal first) ++ commas res
 abbrev pub between : ℕ → List ℕ
 between count = if count == 2 then codes " and " else codes " to "
 
--- a row of so many, by the first and the last
+-- a row of this many, by the first and the last
 abbrev pub row_text : ℕ → ℕ → ℕ → List ℕ
 row_text count first last = parts_text (Words (codes "flights ") ∷ Number first ∷ Words (between count) ∷ Number last ∷ [])
 

@@ -7,14 +7,14 @@ use Rattle.mac_frames.specs.declared.head.MacHead.{MacHead}
 use Rattle.mac_frames.specs.declared.head.MacHead.TheVariants.{Sealed, Up, Down}
 use Rattle.mac_frames.specs.declared.fault.FrameFaultKind.{FrameFaultKind}
 use Rattle.mac_frames.specs.Faults.{frame_fault}
-use Rattle.mac_frames.specs.Reading.{head_in}
+use Rattle.mac_frames.specs.Reader.{head_in}
 use Rattle.frame_words.specs.declared.gist.FrameTarget.{FrameTarget}
 use Rattle.frame_words.specs.declared.gist.FrameTarget.TheVariants as targets
 use Rattle.frame_details.specs.declared.detail.FlightMore.{FlightMore}
 use Rattle.frame_details.specs.Details.{more_of}
 use Rattle.frame_details.specs.Payloads.{payload_of}
-use Rattle.line_tale.specs.declared.told.TaleFlight.{TaleFlight}
-use Rattle.line_tale.specs.Tales.{flight_told}
+use Rattle.line_record.specs.declared.recorded.RecordedFlight.{RecordedFlight}
+use Rattle.line_record.specs.RunRecords.{recorded_flight}
 use Rattle.sentence_parts.specs.declared.part.Who.{Who}
 use Rattle.sentence_parts.specs.declared.part.Who.TheVariants as whos
 use Rattle.sentence_parts.specs.Whos.{who_at, who_of, who_with}
@@ -44,7 +44,7 @@ sender_of octets homes euis = sender_unless (frame_fault octets) octets homes eu
 
 -- # A flight
 
-abbrev pub heard_flight : ℕ → List ℕ → Option Key → TaleFlight → FlightMore → List ℕ → List Eui → Heard
+abbrev pub heard_flight : ℕ → List ℕ → Option Key → RecordedFlight → FlightMore → List ℕ → List Eui → Heard
 heard_flight number octets key flight more homes euis =
     record {
       flight = number;
@@ -74,7 +74,7 @@ injected_key octets keys = if (more_of octets None).sealed then opening_key octe
 -- octets under a key, as they come to a node
 abbrev pub heard_under : List ℕ → Option Key → List ℕ → List Eui → Heard
 heard_under octets key homes euis =
-    heard_flight 0 octets key (flight_told 0 0 octets (payload_of octets key) None) (more_of octets (payload_of octets key)) homes euis
+    heard_flight 0 octets key (recorded_flight 0 0 octets (payload_of octets key) None) (more_of octets (payload_of octets key)) homes euis
 
 abbrev pub heard_octets : List ℕ → List DrawnKey → List ℕ → List Eui → Heard
 heard_octets octets keys homes euis = heard_under octets (injected_key octets keys) homes euis

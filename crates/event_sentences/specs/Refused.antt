@@ -5,8 +5,8 @@ use Rattle.plc_base.specs.declared.key.Key.{Key}
 use Rattle.node_rules.specs.declared.shown.ShownRoute.{ShownRoute}
 use Rattle.line_events.specs.declared.event.Answer.{Answer}
 use Rattle.line_events.specs.declared.event.Answer.TheVariants as answers
-use Rattle.line_tale.specs.declared.act.Act.{Act}
-use Rattle.line_tale.specs.declared.act.Act.TheVariants as acts
+use Rattle.line_record.specs.declared.act.Act.{Act}
+use Rattle.line_record.specs.declared.act.Act.TheVariants as acts
 use Rattle.frame_details.specs.declared.detail.Detail.{Detail}
 use Rattle.frame_details.specs.declared.detail.Detail.TheVariants as details
 use Rattle.frame_words.specs.declared.gist.Gist.{Gist}
@@ -106,7 +106,7 @@ abbrev pub would_reach_text : ℕ → Detail → Scene → List ℕ
 would_reach_text origin detail s =
     parts_text
     (Node s.node ∷ Words (codes " would reach ") ∷ at origin s ∷ Words (codes " with number ") ∷ Number (number_of detail)
-    ∷ Words (codes " at cost ") ∷ Number (cost_of detail + link_cost s.told.act) ∷ Words (kept_text origin s) ∷ [])
+    ∷ Words (codes " at cost ") ∷ Number (cost_of detail + link_cost s.recorded.act) ∷ Words (kept_text origin s) ∷ [])
 
 abbrev pub not_better_text : Heard → Scene → List ℕ
 not_better_text heard s =
@@ -157,7 +157,7 @@ no_address_text None = parts_text (Words (codes "refused: ") ∷ Words (codes "n
 no_address_text (Some to) = parts_text (Words (codes "refused: ") ∷ Node to ∷ Words (codes " is halted or not joined") ∷ [])
 
 abbrev pub refused_order_text : Answer → Scene → List ℕ
-refused_order_text answers.NoAddress s = no_address_text (second_node s.told.act)
+refused_order_text answers.NoAddress s = no_address_text (second_node s.recorded.act)
 refused_order_text answers.NotJoined s = parts_text (Words (codes "refused: ") ∷ Node s.node ∷ Words (codes " is not joined") ∷ [])
 refused_order_text answers.Halted s = parts_text (Words (codes "refused: ") ∷ Node s.node ∷ Words (codes " is halted") ∷ [])
 refused_order_text answers.AlreadyJoined s =

@@ -6,7 +6,7 @@ use Rattle.sentence_parts.specs.declared.part.Part.TheVariants.{Words, Number, N
 use Rattle.sentence_parts.specs.Parts.{parts_text}
 use Rattle.event_sentences.specs.declared.heard.Heard.{Heard}
 use Rattle.event_sentences.specs.declared.watch.Coming.{Coming}
-use Rattle.line_tale.specs.Counters.{flight_with}
+use Rattle.line_record.specs.Counters.{flight_with}
 use Rattle.event_sentences.specs.Scenes.{Scene}
 use Rattle.event_sentences.specs.Watches.{Watched, coming_of, never_came}
 

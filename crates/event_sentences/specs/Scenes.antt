@@ -5,8 +5,8 @@ use Rattle.std.specs.Option.{option_copied}
 use Rattle.plc_base.specs.declared.address.Eui.{Eui}
 use Rattle.node_rules.specs.declared.shown.Shown.{Shown}
 use Rattle.node_rules.specs.declared.shown.ShownRoute.{ShownRoute}
-use Rattle.line_tale.specs.declared.told.TaleEvent.{TaleEvent}
-use Rattle.line_tale.specs.declared.told.TaleFlight.{TaleFlight}
+use Rattle.line_record.specs.declared.recorded.RecordedEvent.{RecordedEvent}
+use Rattle.line_record.specs.declared.recorded.RecordedFlight.{RecordedFlight}
 use Rattle.sentence_parts.specs.declared.part.Who.{Who}
 use Rattle.sentence_parts.specs.declared.part.Part.{Part}
 use Rattle.sentence_parts.specs.declared.part.Part.TheVariants.{Words, Number, Place}
@@ -23,9 +23,9 @@ use Rattle.event_sentences.specs.Watches.{Watched}
 -- one event, what came with it, and the states about it
 pub record Scene : Type 0 where
   -- what the event was and how it ended
-  pub told : TaleEvent
+  pub recorded : RecordedEvent
   -- the flights that it made
-  pub flights : List TaleFlight
+  pub flights : List RecordedFlight
   -- the frame that came, if one did
   pub heard : Option Heard
   -- the node that it is about, and what that shows after it
@@ -44,7 +44,7 @@ pub record Scene : Type 0 where
 abbrev pub scene_of : Moment → Scene
 scene_of m =
     record {
-      told = m.told;
+      recorded = m.recorded;
       flights = m.flights.now;
       heard = option_copied m.heard;
       node = m.node;
@@ -59,7 +59,7 @@ scene_of m =
 -- # Flights
 
 abbrev pub numbers : Meant → Scene → List ℕ
-numbers meant s = meant_from meant s.told.first_flight s.flights
+numbers meant s = meant_from meant s.recorded.first_flight s.flights
 
 abbrev pub named : Meant → Scene → List ℕ
 named meant s = named_text (numbers meant s)

@@ -2,7 +2,7 @@
 use Rattle.std.specs.Prelude.{ℕ, ◌==◌, Bool, true, false, List, [], ◌∷◌, ◌++◌, length, codes, slice_get, Option, None, Some, if◌then◌else◌}
 use Rattle.line_events.specs.declared.event.Answer.{Answer}
 use Rattle.line_events.specs.declared.event.Answer.TheVariants as answers
-use Rattle.line_tale.specs.declared.told.TaleFlight.{TaleFlight}
+use Rattle.line_record.specs.declared.recorded.RecordedFlight.{RecordedFlight}
 use Rattle.frame_details.specs.declared.detail.Detail.{Detail}
 use Rattle.frame_details.specs.declared.detail.Detail.TheVariants as details
 use Rattle.frame_words.specs.declared.gist.Gist.{Gist}
@@ -22,7 +22,7 @@ use Rattle.event_sentences.specs.Watches.{Watched}
 
 -- # Datagrams
 
--- a datagram that is handed up, by the number of its send, 0 where there is none
+-- a datagram that is handed up, by the number of its send, 0 if there is none
 abbrev pub sent_up : ℕ → Deed
 sent_up send = if send == 0 then deeds.HandsUpStray else deeds.HandsUp send
 
@@ -106,12 +106,12 @@ abbrev pub reported_text : Gist → Scene → List ℕ
 reported_text (gists.Ends lost to) s = reported_end_text lost to s
 reported_text _ s = ends_here_text s
 
-abbrev pub gist_by : Option TaleFlight → Gist
+abbrev pub gist_by : Option RecordedFlight → Gist
 gist_by None = gists.Unread
 gist_by (Some flight) = flight.gist
 
 -- what the first flight of an event is about
-abbrev pub first_gist : List TaleFlight → Gist
+abbrev pub first_gist : List RecordedFlight → Gist
 first_gist flights = gist_by (slice_get flights 0)
 
 abbrev pub lost_of : Gist → ℕ
@@ -140,24 +140,24 @@ abbrev pub way_words : Detail → List ℕ
 way_words details.Up = codes "up to the coordinator"
 way_words _ = codes "down to the meter"
 
-abbrev pub carried_first_text : TaleFlight → Detail → Scene → List ℕ
+abbrev pub carried_first_text : RecordedFlight → Detail → Scene → List ℕ
 carried_first_text first detail s =
     if is_request first.kind
     then with_flights
     (Node s.node ∷ Words (codes " has no route to the coordinator: the message waits, and a route request goes out") ∷ []) s
     else with_flights (Node s.node ∷ Words (codes " carries the message ") ∷ Words (way_words detail) ∷ []) s
 
-abbrev pub carried_by : Option TaleFlight → Detail → Scene → List ℕ
+abbrev pub carried_by : Option RecordedFlight → Detail → Scene → List ℕ
 carried_by None detail s = parts_text (Node s.node ∷ Words (codes " has no route to the coordinator: the message waits") ∷ [])
 carried_by (Some first) detail s = carried_first_text first detail s
 
-abbrev pub carried_text : List TaleFlight → Detail → Scene → List ℕ
+abbrev pub carried_text : List RecordedFlight → Detail → Scene → List ℕ
 carried_text flights detail s = carried_by (slice_get flights 0) detail s
 
 -- # Each answer
 
 abbrev pub taken_text : Answer → Heard → Scene → List ℕ
-taken_text answers.Up heard s = deed_text s.node (handed_up s.told.up)
+taken_text answers.Up heard s = deed_text s.node (handed_up s.recorded.up)
 taken_text answers.Held heard s = held_text s.node heard.more.detail
 taken_text answers.Relayed heard s = relayed_text heard.gist s
 taken_text answers.Answered heard s = answered_text heard.gist heard s

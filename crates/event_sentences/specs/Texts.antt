@@ -8,18 +8,18 @@ use Rattle.event_sentences.specs.Scenes.{Scene}
 use Rattle.event_sentences.specs.Taken.{taken_text}
 
 abbrev pub done_by : Option Heard → Scene → List ℕ
-done_by None s = asked_text s.told.act s
-done_by (Some heard) s = taken_text s.told.answer heard s
+done_by None s = asked_text s.recorded.act s
+done_by (Some heard) s = taken_text s.recorded.answer heard s
 
 abbrev pub done_text : Scene → List ℕ
 done_text s = done_by s.heard s
 
 abbrev pub refused_by : Option Heard → Scene → List ℕ
-refused_by None s = refused_order_text s.told.answer s
-refused_by (Some heard) s = refused_frame_text s.told.answer heard s
+refused_by None s = refused_order_text s.recorded.answer s
+refused_by (Some heard) s = refused_frame_text s.recorded.answer heard s
 
 abbrev pub refused_text : Scene → List ℕ
 refused_text s = refused_by s.heard s
 
 unfoldable pub event_text : Scene → List ℕ
-event_text s = if is_ok s.told.answer then done_text s else refused_text s
+event_text s = if is_ok s.recorded.answer then done_text s else refused_text s

@@ -4,7 +4,7 @@ use Rattle.line_events.specs.declared.event.Answer.{Answer}
 use Rattle.line_events.specs.declared.event.Answer.TheVariants as answers
 use Rattle.line_events.specs.declared.happenings.Handed.{Handed}
 use Rattle.line_rules.specs.Runs.{Entry}
-use Rattle.line_tale.specs.Tales.{event_told}
+use Rattle.line_record.specs.RunRecords.{recorded_event}
 use Rattle.event_sentences.specs.declared.claim.Deed.{Deed}
 use Rattle.event_sentences.specs.declared.claim.Deed.TheVariants as deeds
 use Rattle.event_sentences.specs.declared.heard.Heard.{Heard}
@@ -34,5 +34,5 @@ SaysOne = (x : Entry) (a b : Deed) → IsTrueOf x a → IsTrueOf x b → a ≡ b
 
 -- where a datagram was handed up, the sentence of the event is that of a claim which is true of it
 abbrev pub UpsAreTrue : Type 0
-UpsAreTrue = (x : Entry) (line clock same : ℕ) (s : Scene) (heard : Heard) → s.told ≡ event_told line x.event x.trace.happenings clock same
+UpsAreTrue = (x : Entry) (line clock same : ℕ) (s : Scene) (heard : Heard) → s.recorded ≡ recorded_event line x.event x.trace.happenings clock same
     → s.heard ≡ Some heard → answer_of x ≡ answers.Up → (deed : Deed) × IsTrueOf x deed × (event_text s ≡ deed_text s.node deed)

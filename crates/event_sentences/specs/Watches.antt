@@ -4,10 +4,10 @@ use Rattle.std.specs.Ordering.{nat_cmp}
 use Rattle.std.specs.Option.{unwrap_or}
 use Rattle.std.specs.BTreeMap.{insert_entry, is_at}
 use Rattle.std.specs.Map.{lookup}
-use Rattle.line_tale.specs.declared.act.Act.{Act}
-use Rattle.line_tale.specs.declared.act.Act.TheVariants as acts
-use Rattle.line_tale.specs.declared.told.TaleEvent.{TaleEvent}
-use Rattle.line_tale.specs.Kinds.{takes_counter}
+use Rattle.line_record.specs.declared.act.Act.{Act}
+use Rattle.line_record.specs.declared.act.Act.TheVariants as acts
+use Rattle.line_record.specs.declared.recorded.RecordedEvent.{RecordedEvent}
+use Rattle.line_record.specs.Kinds.{takes_counter}
 use Rattle.node_rules.specs.declared.shown.ShownRoute.{ShownRoute}
 use Rattle.event_sentences.specs.declared.watch.Coming.{Coming}
 use Rattle.event_sentences.specs.RouteEnds.{Routes, no_routes, routes_after}
@@ -49,7 +49,7 @@ is_restart (acts.Restart node) = true
 is_restart _ = false
 
 -- after an event of the node: a flight came to it, by a delivery or by its octets, or it restarted
-abbrev pub noted : TaleEvent → ℕ → Watched → Watched
+abbrev pub noted : RecordedEvent → ℕ → Watched → Watched
 noted e event watched =
     if nat_lt 0 e.came then record watched { comings = comings_with e.came event (takes_counter e.answer) watched.comings }
     else (if is_restart e.act then record watched { restarted = event } else watched)

@@ -6,8 +6,8 @@ ghost use Rattle.event_sentences.specs.Asked as spec_asked;
 use crate::flights::Meant;
 use crate::moment::Moment;
 use line_events::Answer;
+use line_record::Act;
 use line_script::answer_word;
-use line_tale::Act;
 use sentence_parts::{Part, node, number, place, words};
 use std::alloc::AllocError;
 
@@ -60,22 +60,22 @@ impl<'a> Moment<'a> {
     }
 
     fn sent(&self, to: u32) -> Result<String, AllocError>
-        ensures { IfOk result (λ text. string_bytes text ≡ spec_asked.sent_text self.now.told.answer to (scene_of self.now)) }
+        ensures { IfOk result (λ text. string_bytes text ≡ spec_asked.sent_text self.now.recorded.answer to (scene_of self.now)) }
     {
-        match self.told.answer {
+        match self.recorded.answer {
             Answer::Sent => self.sent_at_once(),
             _ => self.waits(to),
         }
     }
 
     fn allowed(&self, meter: u32) -> Result<String, AllocError>
-        ensures { IfOk result (λ text. string_bytes text ≡ spec_asked.allowed_text meter self.now.told.address) }
+        ensures { IfOk result (λ text. string_bytes text ≡ spec_asked.allowed_text meter self.now.recorded.address) }
     {
         self.say(&[
             node(meter),
             words(" may join, and has address "),
             Part::Short {
-                address: address_or_0(self.told.address),
+                address: address_or_0(self.recorded.address),
             },
         ])
     }
@@ -161,9 +161,9 @@ impl<'a> Moment<'a> {
 
     // Of an event of further reach.
     fn asked_further(&self) -> Result<String, AllocError>
-        ensures { IfOk result (λ text. string_bytes text ≡ spec_asked.asked_further_text self.now.told.act (scene_of self.now)) }
+        ensures { IfOk result (λ text. string_bytes text ≡ spec_asked.asked_further_text self.now.recorded.act (scene_of self.now)) }
     {
-        match &self.told.act {
+        match &self.recorded.act {
             Act::Bcast { .. } => {
                 self.with_flights(&[node(self.node), words(" sends a datagram to all")])
             }
@@ -174,15 +174,15 @@ impl<'a> Moment<'a> {
                 words(" asks for the way to "),
                 node(*to),
             ]),
-            _ => self.say(&[words(answer_word(self.told.answer))]),
+            _ => self.say(&[words(answer_word(self.recorded.answer))]),
         }
     }
 
     // Of an order to a meter.
     fn ordered(&self) -> Result<String, AllocError>
-        ensures { IfOk result (λ text. string_bytes text ≡ spec_asked.ordered_text self.now.told.act (scene_of self.now)) }
+        ensures { IfOk result (λ text. string_bytes text ≡ spec_asked.ordered_text self.now.recorded.act (scene_of self.now)) }
     {
-        match &self.told.act {
+        match &self.recorded.act {
             Act::Challenge { node } => self.challenged(*node),
             Act::Activate { node, index } => self.activated(*node, *index),
             Act::Kick { node } => self.kicked(*node),
@@ -192,12 +192,15 @@ impl<'a> Moment<'a> {
 
     /// Of an event that somebody asked for.
     pub fn asked(&self) -> Result<String, AllocError>
-        ensures { IfOk result (λ text. string_bytes text ≡ spec_asked.asked_text self.now.told.act (scene_of self.now)) }
+        ensures { IfOk result (λ text. string_bytes text ≡ spec_asked.asked_text self.now.recorded.act (scene_of self.now)) }
     {
-        match &self.told.act {
+        match &self.recorded.act {
             Act::Send { to, .. } => self.sent(*to),
             Act::Allow { node } => self.allowed(*node),
-            Act::Rand { .. } => self.say(&[node(self.node), words(" has one more random value")]),
+            Act::RandomOctets { .. } => self.say(&[
+                node(self.node),
+                words(" has one more random value"),
+            ]),
             Act::Join { agent, .. } => self.asks_to_join(*agent),
             Act::Leave { .. } => {
                 self.say(&[node(self.node), words(" forgets its address and keys")])

@@ -5,7 +5,7 @@ ghost use Rattle.std.specs.Option.{option_copied};
 ghost use Rattle.event_sentences.specs.Flights as flights;
 
 use frame_words::{Gist, PayloadKind};
-use line_tale::TaleFlight;
+use line_record::RecordedFlight;
 use plc_base::Eui;
 use sentence_parts::{Who, number, push_parts, sentence, who_of, words};
 use std::alloc::{AllocError, Global};
@@ -52,7 +52,7 @@ fn is_reply(kind: PayloadKind) -> bool
     }
 }
 
-fn is_meant(meant: Meant, flight: &TaleFlight) -> bool
+fn is_meant(meant: Meant, flight: &RecordedFlight) -> bool
     ensures { result ≡ flights.is_meant meant flight.now }
 {
     match meant {
@@ -67,7 +67,7 @@ fn push_meant(
     numbers: &mut Vec<usize>,
     meant: Meant,
     number: usize,
-    flight: &TaleFlight,
+    flight: &RecordedFlight,
 ) -> Result<(), AllocError>
     ensures { OnOk result (numbers.new.items ≡ numbers.old.items ++ flights.meant_number meant number flight.now) }
 {
@@ -82,7 +82,7 @@ pub fn meant_numbers(
     alloc: Global,
     meant: Meant,
     first: u32,
-    made: &[TaleFlight],
+    made: &[RecordedFlight],
 ) -> Result<Vec<usize>, AllocError>
     ensures { IfOk result (λ numbers. numbers.items ≡ flights.meant_from meant first made.now) }
 {
@@ -93,14 +93,14 @@ pub fn meant_numbers(
     Ok(numbers)
 }
 
-fn first_meant(meant: Meant, made: &[TaleFlight]) -> Option<&TaleFlight>
+fn first_meant(meant: Meant, made: &[RecordedFlight]) -> Option<&RecordedFlight>
     ensures { option_copied result ≡ find (flights.is_meant meant) made.now }
 {
     made.iter().find(|flight| is_meant(meant, flight))
 }
 
 /// Whom the first flight is for that is meant.
-pub fn first_target(meant: Meant, made: &[TaleFlight], homes: &[u32], euis: &[Eui]) -> Who
+pub fn first_target(meant: Meant, made: &[RecordedFlight], homes: &[u32], euis: &[Eui]) -> Who
     ensures { result ≡ flights.first_target meant made.now homes.now euis.now }
 {
     match first_meant(meant, made) {

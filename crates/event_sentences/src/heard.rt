@@ -7,7 +7,7 @@ ghost use Rattle.event_sentences.specs.Heards as heards;
 
 use frame_details::{FlightMore, more_of, open_octets};
 use frame_words::{FrameTarget, Gist, PayloadKind};
-use line_tale::{TaleFlight, flight_told};
+use line_record::{RecordedFlight, recorded_flight};
 use mac_frames::{MacHead, read_frame};
 use plc_base::{Eui, FrameBuf, Key};
 use sentence_parts::{Who, who_at, who_of, who_with};
@@ -32,7 +32,7 @@ pub struct Heard {
     pub to: Who,
     /// The short address that it is for, if it is for one.
     pub to_address: Option<u16>,
-    /// What is kept of it beside the tale.
+    /// What is kept of it beside the record.
     pub more: FlightMore,
     /// What its payload is, Unknown where no key of the script opens it.
     pub kind: PayloadKind,
@@ -77,7 +77,7 @@ pub fn heard_flight(
     number: u32,
     octets: &[u8],
     key: Option<Key>,
-    flight: &TaleFlight,
+    flight: &RecordedFlight,
     more: FlightMore,
     homes: &[u32],
     euis: &[Eui],
@@ -152,7 +152,7 @@ pub fn heard_octets(
     let key = injected_key(octets, keys, out);
     let is_open = open_octets(octets, &key, out);
     let payload = payload_in(is_open, out);
-    let told = flight_told(0, 0, octets, payload, None);
+    let recorded = recorded_flight(0, 0, octets, payload, None);
     let more = more_of(octets, payload);
-    heard_flight(0, octets, key, &told, more, homes, euis)
+    heard_flight(0, octets, key, &recorded, more, homes, euis)
 }

@@ -118,9 +118,9 @@ impl<'a> Moment<'a> {
 
     // Of a frame about a joining.
     fn joining(&self, heard: &Heard) -> Result<String, AllocError>
-        ensures { IfOk result (λ text. string_bytes text ≡ spec_joined.joining_text self.now.told.answer heard.now (scene_of self.now)) }
+        ensures { IfOk result (λ text. string_bytes text ≡ spec_joined.joining_text self.now.recorded.answer heard.now (scene_of self.now)) }
     {
-        match self.told.answer {
+        match self.recorded.answer {
             Answer::Challenged => self.challenged_by(heard),
             Answer::Replied => {
                 self.with_flights(&[node(self.node), words(" answers with message 2")])
@@ -138,7 +138,7 @@ impl<'a> Moment<'a> {
                 words(" hears that it is shut out: it forgets its address and keys"),
             ]),
             Answer::Activated => self.seals(heard.more.detail),
-            _ => self.say(&[words(answer_word(self.told.answer))]),
+            _ => self.say(&[words(answer_word(self.recorded.answer))]),
         }
     }
 
@@ -161,9 +161,9 @@ impl<'a> Moment<'a> {
 
     /// Of a frame of further reach or about a joining that was taken.
     pub fn further(&self, heard: &Heard) -> Result<String, AllocError>
-        ensures { IfOk result (λ text. string_bytes text ≡ spec_joined.further_text self.now.told.answer heard.now (scene_of self.now)) }
+        ensures { IfOk result (λ text. string_bytes text ≡ spec_joined.further_text self.now.recorded.answer heard.now (scene_of self.now)) }
     {
-        match self.told.answer {
+        match self.recorded.answer {
             Answer::Acked => self.acked(heard),
             Answer::Bup => self.with_flights(&[
                 node(self.node),

@@ -10,13 +10,13 @@ ghost use Rattle.event_sentences.specs.Texts as texts;
 use crate::flights::{Meant, bracketed, first_target, leaving, meant_numbers, named};
 use crate::heard::Heard;
 use crate::watch::Watch;
-use line_tale::{Counters, TaleEvent, TaleFlight};
+use line_record::{Counters, RecordedEvent, RecordedFlight};
 use node_rules::{Shown, ShownRoute};
 use plc_base::Eui;
 use sentence_parts::{Part, Who, number, place, push_parts, who_at, words};
 use std::alloc::{AllocError, Global};
 
-// A part of a sentence has about so many octets, so that few sentences move while they grow.
+// A part of a sentence has about this many octets, so that few sentences move while they grow.
 const PART_OCTETS: usize = 24;
 
 /// What the sentence of an event goes by: the event, the flights that it made, the frame that came, and the node that it is about.
@@ -25,9 +25,9 @@ pub struct Moment<'a> {
     /// Where sentences are made.
     pub alloc: Global,
     /// What the event was and how it ended.
-    pub told: TaleEvent,
+    pub recorded: RecordedEvent,
     /// The flights that it made.
-    pub flights: &'a [TaleFlight],
+    pub flights: &'a [RecordedFlight],
     /// The frame that came, if one did.
     pub heard: Option<&'a Heard>,
     /// The node that the event is about.
@@ -78,7 +78,7 @@ impl<'a> Moment<'a> {
     fn numbers(&self, meant: Meant) -> Result<Vec<usize>, AllocError>
         ensures { IfOk result (λ numbers. numbers.items ≡ scenes.numbers meant (scene_of self.now)) }
     {
-        meant_numbers(self.alloc, meant, self.told.first_flight, self.flights)
+        meant_numbers(self.alloc, meant, self.recorded.first_flight, self.flights)
     }
 
     /// The flights that are meant, by their numbers.
@@ -245,7 +245,7 @@ impl<'a> Moment<'a> {
     pub fn text(&self) -> Result<String, AllocError>
         ensures { IfOk result (λ text. string_bytes text ≡ texts.event_text (scene_of self.now)) }
     {
-        if self.told.answer.is_ok() {
+        if self.recorded.answer.is_ok() {
             return self.done();
         }
         self.refused()

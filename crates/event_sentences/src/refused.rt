@@ -9,7 +9,7 @@ use crate::reasons::{held_keys, plain_reason, plain_refusal};
 use frame_details::Detail;
 use frame_words::{Gist, kind_word};
 use line_events::Answer;
-use line_tale::Act;
+use line_record::Act;
 use node_rules::ShownRoute;
 use plc_base::{Key, Short};
 use sentence_parts::{Part, node, number, place, words};
@@ -203,7 +203,7 @@ impl<'a> Moment<'a> {
             words(" with number "),
             number(number_of(detail) as usize),
             words(" at cost "),
-            number(cost_of(detail) as usize + link_cost(&self.told.act) as usize),
+            number(cost_of(detail) as usize + link_cost(&self.recorded.act) as usize),
             words(kept.as_str()),
         ])
     }
@@ -250,9 +250,9 @@ impl<'a> Moment<'a> {
 
     // Of a frame that says nothing of its own.
     fn refused_plainly(&self) -> Result<String, AllocError>
-        ensures { IfOk result (λ text. string_bytes text ≡ spec_refused.refused_plainly_text self.now.told.answer self.now.node) }
+        ensures { IfOk result (λ text. string_bytes text ≡ spec_refused.refused_plainly_text self.now.recorded.answer self.now.node) }
     {
-        match self.told.answer {
+        match self.recorded.answer {
             Answer::Malformed => self.say(&[node(self.node), words(": no frame")]),
             Answer::Halted => {
                 self.say(&[node(self.node), words(" is halted and hears nothing")])
@@ -265,16 +265,16 @@ impl<'a> Moment<'a> {
             _ => self.say(&[
                 node(self.node),
                 words(" refuses: "),
-                words(plain_reason(self.told.answer)),
+                words(plain_reason(self.recorded.answer)),
             ]),
         }
     }
 
     /// Of a frame that was refused.
     pub fn refused_frame(&self, heard: &Heard) -> Result<String, AllocError>
-        ensures { IfOk result (λ text. string_bytes text ≡ spec_refused.refused_frame_text self.now.told.answer heard.now (scene_of self.now)) }
+        ensures { IfOk result (λ text. string_bytes text ≡ spec_refused.refused_frame_text self.now.recorded.answer heard.now (scene_of self.now)) }
     {
-        match self.told.answer {
+        match self.recorded.answer {
             Answer::NotForMe => self.not_for_me(heard.to_address),
             Answer::NoKey => self.no_key(heard.more.index),
             Answer::BadTag => self.bad_tag(heard),
@@ -286,9 +286,9 @@ impl<'a> Moment<'a> {
     }
 
     fn no_address(&self) -> Result<String, AllocError>
-        ensures { IfOk result (λ text. string_bytes text ≡ spec_refused.no_address_text (spec_refused.second_node self.now.told.act)) }
+        ensures { IfOk result (λ text. string_bytes text ≡ spec_refused.no_address_text (spec_refused.second_node self.now.recorded.act)) }
     {
-        match second_node(&self.told.act) {
+        match second_node(&self.recorded.act) {
             Some(to) => self.say(&[
                 words("refused: "),
                 node(to),
@@ -300,9 +300,9 @@ impl<'a> Moment<'a> {
 
     /// Of what somebody asked for and was refused.
     pub fn refused_order(&self) -> Result<String, AllocError>
-        ensures { IfOk result (λ text. string_bytes text ≡ spec_refused.refused_order_text self.now.told.answer (scene_of self.now)) }
+        ensures { IfOk result (λ text. string_bytes text ≡ spec_refused.refused_order_text self.now.recorded.answer (scene_of self.now)) }
     {
-        match self.told.answer {
+        match self.recorded.answer {
             Answer::NoAddress => self.no_address(),
             Answer::NotJoined => self.say(&[
                 words("refused: "),
@@ -322,7 +322,10 @@ impl<'a> Moment<'a> {
                 node(self.node),
                 words(" loses power in a write: it halts"),
             ]),
-            _ => self.say(&[words("refused: "), words(plain_refusal(self.told.answer))]),
+            _ => self.say(&[
+                words("refused: "),
+                words(plain_refusal(self.recorded.answer)),
+            ]),
         }
     }
 }

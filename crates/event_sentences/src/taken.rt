@@ -11,7 +11,7 @@ use crate::moment::Moment;
 use frame_details::Detail;
 use frame_words::Gist;
 use line_events::Answer;
-use line_tale::TaleFlight;
+use line_record::RecordedFlight;
 use sentence_parts::{node, number, place, words};
 use std::alloc::AllocError;
 
@@ -43,7 +43,7 @@ fn lost_of(gist: &Gist) -> u16
     }
 }
 
-fn first_gist(flights: &[TaleFlight]) -> Gist
+fn first_gist(flights: &[RecordedFlight]) -> Gist
     ensures { result ≡ spec_taken.first_gist flights.now }
 {
     match flights.first() {
@@ -279,7 +279,7 @@ impl<'a> Moment<'a> {
         Ok(text)
     }
 
-    fn carried_first(&self, first: &TaleFlight, detail: Detail) -> Result<String, AllocError>
+    fn carried_first(&self, first: &RecordedFlight, detail: Detail) -> Result<String, AllocError>
         ensures { IfOk result (λ text. string_bytes text ≡ spec_taken.carried_first_text first.now detail (scene_of self.now)) }
     {
         if is_request(first.kind) {
@@ -311,10 +311,10 @@ impl<'a> Moment<'a> {
 
     /// Of a frame that was taken.
     pub fn taken(&self, heard: &Heard) -> Result<String, AllocError>
-        ensures { IfOk result (λ text. string_bytes text ≡ spec_taken.taken_text self.now.told.answer heard.now (scene_of self.now)) }
+        ensures { IfOk result (λ text. string_bytes text ≡ spec_taken.taken_text self.now.recorded.answer heard.now (scene_of self.now)) }
     {
-        match self.told.answer {
-            Answer::Up => deed_said(self.alloc, self.node, handed_up(self.told.up)),
+        match self.recorded.answer {
+            Answer::Up => deed_said(self.alloc, self.node, handed_up(self.recorded.up)),
             Answer::Held => self.held(heard.more.detail),
             Answer::Relayed => self.relayed(&heard.gist),
             Answer::Answered => self.answered(heard),

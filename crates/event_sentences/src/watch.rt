@@ -4,13 +4,13 @@ ghost use Rattle.event_sentences.specs.RouteEnds as spec_ends;
 ghost use Rattle.event_sentences.specs.Watches as spec_watches;
 
 use crate::route_ends::RouteEnds;
-use line_tale::{Act, TaleEvent, takes_counter};
+use line_record::{Act, RecordedEvent, takes_counter};
 use node_rules::ShownRoute;
 use std::alloc::{AllocError, Global};
 use std::collections::BTreeMap;
 use std::marker::Model;
 
-/// How a flight came to a node: by the numbers of events, 0 where there is none.
+/// How a flight came to a node: by the numbers of events, 0 if there is none.
 #[derive(Clone, Copy)]
 pub struct Coming {
     /// The event at which it came first.
@@ -136,15 +136,15 @@ impl Watch {
     /// An event of this number, which was one of the node, as far as later sentences go by it.
     ///
     /// It fails only where memory runs out, and nothing changes then.
-    pub fn note(&mut self, event: usize, told: &TaleEvent) -> Result<(), AllocError>
-        ensures { OnOk result (self.new ≡ spec_watches.noted told.now event self.old) }
+    pub fn note(&mut self, event: usize, recorded: &RecordedEvent) -> Result<(), AllocError>
+        ensures { OnOk result (self.new ≡ spec_watches.noted recorded.now event self.old) }
     {
-        if told.came > 0 {
+        if recorded.came > 0 {
             return self
                 .comings
-                .push(told.came, event, takes_counter(told.answer));
+                .push(recorded.came, event, takes_counter(recorded.answer));
         }
-        if is_restart(&told.act) {
+        if is_restart(&recorded.act) {
             self.restarted = event;
         }
         Ok(())

@@ -344,7 +344,7 @@ pub ready_is_held : (live spare : Bank) (n : ℕ) (copied : Option ℕ) → AreR
 ready_is_held live spare n copied r none = record {
   sizes = r.sizes;
   left = ready_is_left live spare n (choice_of live n) r (inl refl);
-  copy = no_copy live spare n copied none;
+  copy_cells = no_copy live spare n copied none;
 }
 
 pub wiped_is_held : (live old new : Bank) (n : ℕ) (copied : Option ℕ) → AreReady live old n → IsDead new → new.size ≡ old.size → copied ≡ None
@@ -352,7 +352,7 @@ pub wiped_is_held : (live old new : Bank) (n : ℕ) (copied : Option ℕ) → Ar
 wiped_is_held live old new n copied r dead size none = record {
   sizes = r.sizes ∙ sym size;
   left = wiped_is_left live old new n (choice_of live n) r dead (inl refl);
-  copy = no_copy live new n copied none;
+  copy_cells = no_copy live new n copied none;
 }
 
 -- a log of which something may be open, beside a bank that no reading takes for a live one
@@ -362,7 +362,7 @@ held_beside_dead live spare n copied c sizes number marked left dead none = (
   record {
     sizes = sizes;
     left = record { number = number; log = own_left live n c left; beside = inl (dead, inr marked) };
-    copy = no_copy live spare n copied none;
+    copy_cells = no_copy live spare n copied none;
   },
   (left.stands, left.stands_next),
 )
@@ -373,7 +373,7 @@ pub held_beside_standing : (live spare : Bank) (n : ℕ) (copied : Option ℕ) (
 held_beside_standing live spare n copied c sizes number left standing none = record {
   sizes = sizes;
   left = record { number = number; log = own_left live n c left; beside = inr standing };
-  copy = no_copy live spare n copied none;
+  copy_cells = no_copy live spare n copied none;
 }
 
 -- what a log may stand for stays where the words of its cells do
@@ -398,7 +398,7 @@ moved_is_held old live spare n copied sizes same none left = (
   record {
     sizes = sizes;
     left = subst (λ (c : Choice). AreLeft live spare n c) (sym (choice-same old live n same)) left;
-    copy = no_copy live spare n copied none;
+    copy_cells = no_copy live spare n copied none;
   },
   among-same old live n same,
 )
@@ -418,7 +418,7 @@ handed_is_held old retired b0 b1 g n cells m copied c more head log p q size rec
         log = own_left retired n c (word_of_left old retired 0 n c false (omega arith) q left);
         beside = inr (copy_stands b0 b1 g m true (choice_of retired n) (upto old.words cells) more head log records p stands);
       };
-      copy = λ k at. subst (λ (j : ℕ). IsCopy retired b1 n j) (some_same (sym is ∙ at)) (record {
+      copy_cells = λ k at. subst (λ (j : ℕ). IsCopy retired b1 n j) (some_same (sym is ∙ at)) (record {
         number = numbered_of_head b1 g more all.0;
         mark = p.done refl;
         log = all.1;
@@ -439,11 +439,11 @@ retired_is_held old retired spare n copied q held =
           log = word_of_left old retired 0 n (choice_of old n) false (omega arith) q held.left.log;
           beside = beside held.left.beside;
         });
-        copy = λ k at. let copy = held.copy k at in record {
-          number = copy.number;
-          mark = copy.mark;
-          log = copy.log;
-          stands = subst (λ (c : Choice). IsOneOf c (upto spare.words k)) choice copy.stands;
+        copy_cells = λ k at. let copy_cells = held.copy_cells k at in record {
+          number = copy_cells.number;
+          mark = copy_cells.mark;
+          log = copy_cells.log;
+          stands = subst (λ (c : Choice). IsOneOf c (upto spare.words k)) choice copy_cells.stands;
         };
       },
       among-same old retired n same,
@@ -463,9 +463,9 @@ still_held old retired spare other n next copied now q bank_is next_is copied_is
     (retired_is_held old retired spare n copied q held)))
 
 -- a copy that is gone on with, beside the bank that was copied and retired
-pub copy_goes_on : (old copy retired : Bank) (n cells : ℕ) → IsCopy old copy n cells → old.size ≡ copy.size → Programs 0 0 true old retired
-    → AreReady copy retired cells
-copy_goes_on old copy retired n cells is sizes q = record {
+pub copy_goes_on : (old copy_cells retired : Bank) (n cells : ℕ) → IsCopy old copy_cells n cells → old.size ≡ copy_cells.size → Programs 0 0 true old retired
+    → AreReady copy_cells retired cells
+copy_goes_on old copy_cells retired n cells is sizes q = record {
   sizes = sym sizes ∙ sym q.size;
   number = is.number;
   mark = is.mark;

@@ -124,7 +124,7 @@ IsLeftBy old slot octets false new = (new.left ≡ old.left) ⊎ (new.left ≡ o
 abbrev pub choice_of : Bank → ℕ → Choice
 choice_of bank n = record { old = upto bank.words n; new = upto_fence bank.words n }
 
--- The spare bank is a whole copy of the log of the live one, with so many cells.
+-- The spare bank is a whole copy of the log of the live one, with this many cells.
 pub record IsCopy (live spare : Bank) (n cells : ℕ) : Type 0 where
   pub number : IsNumbered spare
   pub mark : spare.words 2 ≡ Some 0
@@ -136,7 +136,7 @@ pub record IsCopy (live spare : Bank) (n cells : ℕ) : Type 0 where
 pub record AreHeld (live spare : Bank) (n : ℕ) (copied : Option ℕ) : Type 0 where
   pub sizes : live.size ≡ spare.size
   pub left : AreLeft live spare n (choice_of live n)
-  pub copy : (cells : ℕ) → copied ≡ Some cells → IsCopy live spare n cells
+  pub copy_cells : (cells : ℕ) → copied ≡ Some cells → IsCopy live spare n cells
 
 -- what holds of a keeper: its banks are held so, and nothing is open where it has not failed
 pub record IsKept (live spare : Bank) (n : ℕ) (copied : Option ℕ) (failed : Bool) : Type 0 where

@@ -22,7 +22,7 @@ fence k = 3 + 12 * k + 10
 abbrev pub mark : ℕ → ℕ
 mark k = 3 + 12 * k + 11
 
--- how many cells a bank of so many words has
+-- how many cells a bank of this many words has
 abbrev pub room : ℕ → ℕ
 room size = (size - 3) / 12
 

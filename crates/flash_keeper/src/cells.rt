@@ -37,7 +37,7 @@ fn place_of(cell: usize) -> usize
 }
 
 /// How many cells a bank has.
-pub fn room_of<B: FlashBank>(bank: &B) -> usize
+pub fn cell_count<B: FlashBank>(bank: &B) -> usize
     ensures { result ≡ room (B.bank bank.now).size }
 {
     (bank.words() - BEFORE) / CELL
@@ -373,7 +373,7 @@ fn copy_cell<B: FlashBank>(
 }
 
 /// Copies the records of the first cells of a log to a bank with an empty log, each slot once. It answers how many cells that takes.
-pub fn copy<B: FlashBank>(from: &B, cells: usize, to: &mut B) -> Result<usize, Failed>
+pub fn copy_cells<B: FlashBank>(from: &B, cells: usize, to: &mut B) -> Result<usize, Failed>
     requires within { cells ≤ room (B.bank from.now).size }
     requires firm { (B.bank from.now).torn ≡ false }
     requires certain { AreCertain (B.bank from.now).words cells }
@@ -413,7 +413,7 @@ pub fn first_blank<B: FlashBank>(bank: &B) -> usize
     ensures found { (n : ℕ) (c : Choice) → IsLeft (B.bank bank.now) n c → IsFoundBlank (B.bank bank.now) n result }
     ensures within { result ≤ room (B.bank bank.now).size }
 {
-    let count = room_of(bank);
+    let count = cell_count(bank);
     let mut cell = 0;
     while cell < count {
         if is_blank(bank, cell) {
@@ -442,7 +442,7 @@ pub fn has_decayed<B: FlashBank>(bank: &B) -> bool
     ensures left { result ≡ true → (n : ℕ) (c : Choice) → IsLeft (B.bank bank.now) n c → ⊥ }
     ensures decayed { result ≡ false → (k : ℕ) → k < room (B.bank bank.now).size → HasDecayed (B.bank bank.now).words k → ⊥ }
 {
-    let count = room_of(bank);
+    let count = cell_count(bank);
     let mut cell = 0;
     while cell < count {
         if is_decayed(bank, cell) {

@@ -8,7 +8,7 @@ ghost use Rattle.flash_keeper.specs.Banks.{AreLeft, ArePurged, IsStore, IsCause,
 ghost use Rattle.flash_keeper.specs.Flash.{IsBlank};
 
 use crate::bank::FlashBank;
-use crate::cells::{find, has_decayed, room_of};
+use crate::cells::{cell_count, find, has_decayed};
 use crate::pair::{Pair, generation_of, wipe};
 use plc_base::{Failed, Keeper, Record};
 use std::marker::Model;
@@ -64,7 +64,7 @@ impl<B: FlashBank + Drop> Model for FlashKeeper<B> {
 }
 
 impl<B: FlashBank + Drop> FlashKeeper<B> {
-    /// Retires and erases two banks, and makes them a store with no record, for records of so many slots: for a device that has none yet, since
+    /// Retires and erases two banks, and makes them a store with no record, for records of this many slots: for a device that has none yet, since
     /// all that they held is lost.
     ///
     /// It gives the banks back with its fault: [`OpenFault::Sizes`] where they have different sizes, or [`OpenFault::Small`] where a bank has fewer
@@ -83,7 +83,7 @@ impl<B: FlashBank + Drop> FlashKeeper<B> {
         if first.words() != second.words() {
             return Err((OpenFault::Sizes, first, second));
         }
-        if room_of(&first) / 2 < slots {
+        if cell_count(&first) / 2 < slots {
             return Err((OpenFault::Small, first, second));
         }
         let mut pair = Pair {

@@ -135,7 +135,7 @@ fn risen(way: u64, at: u64) -> u64 {
 }
 
 impl ModelFlash {
-    /// A bank of so many words, erased.
+    /// A bank of this many words, erased.
     pub fn new(alloc: Global, words: usize, seed: u64) -> Result<ModelFlash, AllocError>
         requires least { 15 ≤ words }
         requires most { words < 2 ^ 32 }
@@ -178,7 +178,7 @@ impl ModelFlash {
         self.put(at, word);
     }
 
-    /// Refuses each program of a word past so many between two erases, as some parts do: it fails, and leaves the word. What it shows stays.
+    /// Refuses each program of a word past this many between two erases, as some parts do: it fails, and leaves the word. What it shows stays.
     pub fn refuse_past(&mut self, programs: u32)
         ensures { bank_of self.new.words.items self.new.torn ≡ bank_of self.old.words.items self.old.torn }
     {

@@ -7,7 +7,7 @@ ghost use Rattle.flash_keeper.specs.Log.{room, upto, upto_fence, Choice, IsOneOf
 ghost use Rattle.flash_keeper.specs.Banks.{choice_of, AreLeft, AreReady, AreHeld, AreAmong, IsStore, IsLive, IsHeaded, IsDead, IsSeen, IsNumbered};
 
 use crate::bank::{FlashBank, HEAD, is_programmed};
-use crate::cells::{close_cell, copy, first_blank, room_of, settle_before, write_cell};
+use crate::cells::{cell_count, close_cell, copy_cells, first_blank, settle_before, write_cell};
 use plc_base::{Failed, Record};
 use std::mem::swap;
 
@@ -123,11 +123,11 @@ fn copy_to<B: FlashBank>(
     ensures size { (B.bank to.new).size ≡ (B.bank to.old).size }
 {
     begin(to, generation)?;
-    copy(from, cells, to)
+    copy_cells(from, cells, to)
 }
 
 impl<B: FlashBank + Drop> Pair<B> {
-    // Retires the live bank, of whose log the spare one is a copy with so many cells, and goes on with that.
+    // Retires the live bank, of whose log the spare one is a copy with this many cells, and goes on with that.
     fn hand_over(&mut self, cells: usize, generation: u64) -> Result<(), Failed>
         ensures live { OnOk result (B.bank self.new.live ≡ B.bank self.old.spare) }
         ensures spare { OnOk result (Programs 0 0 true (B.bank self.old.live) (B.bank self.new.spare)) }
@@ -207,11 +207,11 @@ impl<B: FlashBank + Drop> Pair<B> {
         ensures held { OnErr result (AreHeld (B.bank self.new.live) (B.bank self.new.spare) self.new.next self.new.copied) }
         ensures found { OnErr result (upto_fence (B.bank self.new.live).words self.new.next ≡ upto (B.bank self.old.live).words self.old.next) }
     {
-        if self.next < room_of(&self.live) {
+        if self.next < cell_count(&self.live) {
             return Ok(());
         }
         self.rewrite(self.next)?;
-        if self.next < room_of(&self.live) {
+        if self.next < cell_count(&self.live) {
             return Ok(());
         }
         Err(Failed)
@@ -271,7 +271,7 @@ impl<B: FlashBank + Drop> Pair<B> {
         ensures next { OnErr result (self.new.next ≡ self.old.next) }
         ensures failed { OnErr result ((B.has_failed self.new.live ≡ true) ⊎ (B.has_failed self.new.spare ≡ true)) }
     {
-        let room = room_of(&self.live);
+        let room = cell_count(&self.live);
         if at >= room {
             self.next = at;
             return Ok(());

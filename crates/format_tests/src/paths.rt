@@ -7,7 +7,7 @@ fn short(number: u16) -> Result<Short, Fail> {
     Ok(Short::new(number).ok_or("no address")?)
 }
 
-// The walk of these addresses: so many, from the first on, each one more than the one before.
+// The walk of these addresses: this many, from the first on, each one more than the one before.
 fn walk(first: u16, count: u16) -> Result<Walk, Fail> {
     let mut walk = Walk::new();
     for k in 0..count {

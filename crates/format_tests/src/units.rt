@@ -27,7 +27,7 @@ fn refuses(rt: &impl Abort, octets: &[u8], kind: UnitFaultKind, place: u16) {
     );
 }
 
-// The mesh header from node 1 to node 2 with so many hops, and what follows it.
+// The mesh header from node 1 to node 2 with this many hops, and what follows it.
 fn behind_a_header(hops: u8, load: &[u8]) -> FrameBuf {
     let mut octets = FrameBuf::new();
     if hops < 15 {

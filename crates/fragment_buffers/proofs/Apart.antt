@@ -10,7 +10,7 @@ use Rattle.std.specs.List.{slice_get, All}
 use Rattle.mesh_header.specs.Pieces.{Placed}
 use Rattle.fragment_buffers.specs.Reassembly.{PlacedPiece, Reassembly, placed, begun, overlap, overlaps, repeats, octet_of, octet_at, first_of, before_all}
 use Rattle.fragment_buffers.specs.Reassembly.{gathered, datagram_of}
-use Rattle.fragment_buffers.specs.Taking.{Taking, same_name, has_room, grown, settled, joined, taken_in, taken, unexpired}
+use Rattle.fragment_buffers.specs.PieceIntake.{Taking, same_name, has_room, grown, settled, joined, taken_in, taken, unexpired}
 use Rattle.fragment_buffers.specs.Laws.{no_piece, AreApart, WholeIsOfItsPieces, GapIsInNoPiece, PiecesStayApart}
 use Rattle.fragment_buffers.proofs.Places.{none_passes}
 use Rattle.fragment_buffers.specs.declared.times.TheConstants.{REASSEMBLY_TIME}

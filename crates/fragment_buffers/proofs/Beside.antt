@@ -3,7 +3,7 @@ use Rattle.std.proofs.Common.{◌≡◌, ℕ, ◌<◌, List, length, ap, subst, 
 use Rattle.block_pool.specs.Pool.{PoolState, IsChain, chain_octets}
 use Rattle.fragment_buffers.specs.Entries.{Entry, Keeps, IsBounded, entry_at}
 use Rattle.fragment_buffers.specs.Laws.{IsBeside, AreKept}
-use Rattle.fragment_buffers.proofs.Keeping.{kept_chain, gathered_same}
+use Rattle.fragment_buffers.proofs.PoolEntries.{kept_chain, gathered_same}
 
 pub beside_kept : (p q : PoolState) (es : List Entry) (c : ℕ) → IsBounded es → Keeps p es → IsBeside p q es c → AreKept p q es c
 beside_kept p q es c bounded keeps beside = record {

@@ -8,7 +8,7 @@ use Rattle.plc_base.proofs.EarlierEnds.{earlier, all_last}
 use Rattle.block_pool.specs.Pool.{PoolState}
 use Rattle.mesh_header.specs.Pieces.{Placed}
 use Rattle.fragment_buffers.specs.Reassembly.{PlacedPiece, Reassembly, placed, begun, datagram_of, repeats, overlaps}
-use Rattle.fragment_buffers.specs.Taking.{Held, Full, taken, taken_in, has_room, same_name, grown, settled, joined, behind, unexpired}
+use Rattle.fragment_buffers.specs.PieceIntake.{Held, Full, taken, taken_in, has_room, same_name, grown, settled, joined, behind, unexpired}
 use Rattle.fragment_buffers.specs.Entries.{Entry, reassemblies_in, reassembly_in}
 use Rattle.fragment_buffers.specs.FirstEnd.{end_by, first_end, IsStill}
 use Rattle.fragment_buffers.specs.declared.times.TheConstants.{REASSEMBLY_TIME}

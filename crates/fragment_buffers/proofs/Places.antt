@@ -13,7 +13,7 @@ use Rattle.std.proofs.lemmas.Map.Made.{IsDistinct-from_AllPairs}
 use Rattle.std.specs.List.{list_any, All, AllPairs, sum_by}
 use Rattle.mesh_header.specs.Pieces.{Placed, IsPiece}
 use Rattle.fragment_buffers.specs.declared.piece_span.PieceSpan.{PieceSpan}
-use Rattle.fragment_buffers.specs.Taking.{blocks}
+use Rattle.fragment_buffers.specs.PieceIntake.{blocks}
 use Rattle.fragment_buffers.specs.Entries.{Entry, IsEntry, IsPlace, place_of, meet, blocks_used}
 
 pub piece_place : (piece : Placed) → IsPiece piece → IsPlace piece.size (place_of piece)

@@ -11,7 +11,7 @@ use Rattle.std.specs.Int.{div_ceil}
 use Rattle.std.specs.List.{list_any, slice_get, remove}
 use Rattle.fragment_buffers.specs.Fragmentation.{pieces_of, piece_of}
 use Rattle.fragment_buffers.specs.Reassembly.{PlacedPiece, Reassembly, placed, begun, overlap, overlaps, repeats, octet_of, octet_at, datagram_of}
-use Rattle.fragment_buffers.specs.Taking.{Taking, Held, Whole, same_name, grown, taken}
+use Rattle.fragment_buffers.specs.PieceIntake.{Taking, Held, Whole, same_name, grown, taken}
 use Rattle.fragment_buffers.specs.Answers.{nothing, settled_by, settled_at, joined_at}
 use Rattle.fragment_buffers.specs.Laws.{Coming, after, has_come, Awaits, PiecesComeTogether}
 use Rattle.fragment_buffers.proofs.Octets.{list_any-map}
@@ -288,7 +288,7 @@ the_last held origin d tag w note here came g c missing lt lacks all =
     ∙ whole_last held _ d (all_parts origin d tag note g.since (g.parts ++ c.piece ∷ []) w.long
     (λ k lk. came_push k g.parts c.piece ∙ ap (λ b. b || (k == c.piece)) (g.same k) ∙ all k lk))
 
--- so many come that one is missing
+-- this many come that one is missing
 some_come : (held : List Reassembly) (origin : ℕ) (d : List ℕ) (tag : ℕ) → Awaits held origin d tag → (note : ℕ) (here : List Reassembly) (came : ℕ → Bool)
     → Gathers held origin d tag note here came
     → (cs : List Coming) → (missing : ℕ) → missing < pieces_of (length d) → (came missing || has_come missing cs) ≡ false

@@ -8,7 +8,7 @@ use Rattle.std.proofs.lemmas.List.Elements.{All-from_get_or}
 use Rattle.std.specs.List.{list_any}
 use Rattle.mesh_header.specs.Pieces.{Placed}
 use Rattle.fragment_buffers.specs.Reassembly.{PlacedPiece, Reassembly, begun, placed, datagram_of, repeats}
-use Rattle.fragment_buffers.specs.Taking.{Taking, Full, Held, blocks, blocks_held, same_name, grown, settled, behind, taken_in, taken}
+use Rattle.fragment_buffers.specs.PieceIntake.{Taking, Full, Held, blocks, blocks_held, same_name, grown, settled, behind, taken_in, taken}
 use Rattle.fragment_buffers.specs.Answers.{answer_of, taken_of, nothing, settled_by, settled_at, joined_at}
 
 -- # Behind others

@@ -11,9 +11,9 @@ use Rattle.std.proofs.lemmas.List.Filters.{sum_by-filter_both}
 use Rattle.std.proofs.lemmas.List.Sums.{sum_by-cons}
 use Rattle.fragment_buffers.specs.Fragmentation.{pieces_cut, pieces_of, piece_of}
 use Rattle.mesh_header.specs.declared.unit.Unit.{Unit as MeshUnit}
-use Rattle.fragment_buffers.specs.Taking.{blocks}
+use Rattle.fragment_buffers.specs.PieceIntake.{blocks}
 use Rattle.fragment_buffers.specs.Loads.{Load, Datagram, Command, load_octets, IsShort, UnsealedUnit, units_of, units_in, all_go}
-use Rattle.fragment_buffers.specs.Waiting.{Body, waits_for, pending_in}
+use Rattle.fragment_buffers.specs.WaitingBodies.{Body, waits_for, pending_in}
 
 pub length-units_of : (own to : ℕ) (load : Load) → length (units_of own to load) ≡ units_in load
 unfolding pieces_cut

@@ -6,7 +6,7 @@ use Rattle.fragment_buffers.specs.declared.reassembly.BufferFull.{BufferFull}
 use Rattle.fragment_buffers.specs.declared.reassembly.Taken.{Taken}
 use Rattle.fragment_buffers.specs.declared.reassembly.Taken.TheVariants as answer
 use Rattle.fragment_buffers.specs.Reassembly.{Reassembly, begun, placed, datagram_of, repeats}
-use Rattle.fragment_buffers.specs.Taking.{Taking, Outcome, Full, Held, Whole, grown}
+use Rattle.fragment_buffers.specs.PieceIntake.{Taking, Outcome, Full, Held, Whole, grown}
 use Rattle.fragment_buffers.specs.Entries.{Entry, entry_at}
 
 abbrev pub full : BufferFull

@@ -6,7 +6,7 @@ use Rattle.block_pool.specs.Pool.{PoolState, IsChain, chain_octets}
 use Rattle.mesh_header.specs.Pieces.{Placed}
 use Rattle.fragment_buffers.specs.declared.piece_span.PieceSpan.{PieceSpan}
 use Rattle.fragment_buffers.specs.Reassembly.{PlacedPiece, Reassembly}
-use Rattle.fragment_buffers.specs.Taking.{blocks}
+use Rattle.fragment_buffers.specs.PieceIntake.{blocks}
 
 -- a reassembly whose octets stand in a chain of a pool: its name, its note and time, the chain's number, and the places of its pieces
 pub record Entry : Type 0 where

@@ -4,7 +4,7 @@ use Rattle.std.specs.Int.{div_ceil}
 use Rattle.std.specs.List.{range_with_len}
 use Rattle.mesh_header.specs.Pieces.{Placed}
 
--- how many units carry a datagram of so many octets: one whole, or one for each piece
+-- how many units carry a datagram of this many octets: one whole, or one for each piece
 abbrev pub pieces_of : ℕ → ℕ
 pieces_of octets = if nat_le octets 375 then 1 else div_ceil octets 368
 

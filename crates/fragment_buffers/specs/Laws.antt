@@ -9,7 +9,7 @@ use Rattle.fragment_buffers.specs.Entries.{Entry, Keeps, IsBounded, IsOther, ent
 use Rattle.fragment_buffers.specs.Fragmentation.{pieces_of, piece_of}
 use Rattle.fragment_buffers.specs.Loads.{Load, IsShort, load_octets, units_of}
 use Rattle.fragment_buffers.specs.Reassembly.{Reassembly, PlacedPiece, datagram_of, octet_of, overlap, begun}
-use Rattle.fragment_buffers.specs.Taking.{Held, Whole, blocks, blocks_held, same_name, taken, unexpired}
+use Rattle.fragment_buffers.specs.PieceIntake.{Held, Whole, blocks, blocks_held, same_name, taken, unexpired}
 
 -- # Worked: a datagram of 736 octets
 

@@ -3,11 +3,11 @@ pub mod Buffers
 pub mod Fragmentation
 pub mod Entries
 pub mod FirstEnd
-pub mod Holding
+pub mod HeldEntries
 pub mod Laws
 pub mod Loads
 pub mod NextTag
 pub mod Reassembly
 pub mod Steps
-pub mod Taking
-pub mod Waiting
+pub mod PieceIntake
+pub mod WaitingBodies

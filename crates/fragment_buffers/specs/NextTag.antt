@@ -30,7 +30,7 @@ tag_after tag = (tag + 1) % 65536
 abbrev pub tag_write : ℕ → Write
 tag_write tag = number_write tag_at (tag_after tag)
 
--- what is stored before a datagram of so many octets has its tag: nothing, where it goes whole
+-- what is stored before a datagram of this many octets has its tag: nothing, where it goes whole
 abbrev pub take_write : ℕ → ℕ → Option Write
 take_write octets tag = if nat_le octets 375 then None else Some (tag_write tag)
 

@@ -74,7 +74,7 @@ before_all None rest = None
 before_all (Some octet) None = None
 before_all (Some octet) (Some octets) = Some (octet ∷ octets)
 
--- so many octets from a position on, if each of the positions lies in a piece
+-- this many octets from a position on, if each of the positions lies in a piece
 abbrev pub gathered : List PlacedPiece → (from count : ℕ) → Option (List ℕ)
 gathered ps i zero = Some []
 gathered ps i (suc count) = before_all (octet_at ps i) (gathered ps (suc i) count)

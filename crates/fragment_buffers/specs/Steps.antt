@@ -1,7 +1,7 @@
 -- What a call makes of one reassembly and of its pool: p is the pool before, q after it.
 use Rattle.std.specs.Prelude.{◌≡◌, ℕ, ◌+◌, ◌<◌, List, length}
 use Rattle.block_pool.specs.Pool.{PoolState, IsChain, chain_octets}
-use Rattle.fragment_buffers.specs.Taking.{blocks}
+use Rattle.fragment_buffers.specs.PieceIntake.{blocks}
 use Rattle.fragment_buffers.specs.Entries.{Entry, entry_at}
 
 -- a chain and its octets stay

@@ -13,7 +13,7 @@ ghost use Rattle.fragment_buffers.specs.Entries.{Entry, IsEntry, IsPlace, reasse
 ghost use Rattle.fragment_buffers.specs.FirstEnd.{first_end};
 ghost use Rattle.fragment_buffers.specs.Reassembly.{begun, placed};
 ghost use Rattle.fragment_buffers.specs.Steps.{Begins, Changes};
-ghost use Rattle.fragment_buffers.specs.Taking.{blocks, grown};
+ghost use Rattle.fragment_buffers.specs.PieceIntake.{blocks, grown};
 
 use crate::REASSEMBLY_TIME;
 use crate::piece_span::{PieceSpan, cover_all, has_place, overlap};
@@ -153,7 +153,7 @@ fn count(buffers: &[Buffer]) -> usize
     sum
 }
 
-// So many places from one on.
+// This many places from one on.
 fn part(places: &[PieceSpan], start: usize, count: usize) -> &[PieceSpan]
     requires { start + count ≤ length places.now }
     ensures { result.now ≡ take count (drop start places.now) }
@@ -161,7 +161,7 @@ fn part(places: &[PieceSpan], start: usize, count: usize) -> &[PieceSpan]
     &places[start..start + count]
 }
 
-// Removes so many places from one on.
+// Removes this many places from one on.
 fn cut(places: &mut ReservedList<PieceSpan, PIECES>, start: usize, count: usize)
     requires { start + count ≤ length places.old }
     ensures { places.new ≡ take start places.old ++ drop (start + count) places.old }

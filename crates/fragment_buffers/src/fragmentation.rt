@@ -8,7 +8,7 @@ use mesh_header::{LONGEST_WHOLE, Piece};
 /// The octets of each piece but the last.
 const PIECE: usize = 368;
 
-/// How many units carry a datagram of so many octets, 1 to 1,280: one for up to 375 octets, and else one for each piece of 368
+/// How many units carry a datagram of this many octets, 1 to 1,280: one for up to 375 octets, and else one for each piece of 368
 /// octets and one for the octets that are left.
 pub fn pieces(octets: u16) -> u8
     requires { (1 ≤ octets) × (octets ≤ LONGEST_DATAGRAM) }

@@ -19,7 +19,7 @@
 //! It holds 8 reassemblies, each for [`REASSEMBLY_TIME`]. Opening takes memory for the places of their pieces, 2,560 octets, and no other call takes any
 //! but blocks of the pool; there is no `unsafe`. A piece that overlaps
 //! another one begins its reassembly anew. Times are the caller's, in seconds. `specs/Loads.antt` says which units a datagram or a command
-//! goes out as, and `specs/Waiting.antt` what waits for a route; the crates above carry that out.
+//! goes out as, and `specs/WaitingBodies.antt` what waits for a route; the crates above carry that out.
 #![tactic(auto)]
 
 mod buffers;

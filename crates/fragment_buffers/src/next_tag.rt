@@ -68,7 +68,7 @@ impl NextTag {
         Ok(())
     }
 
-    /// The tag of a datagram of so many octets. Where it goes in pieces, the tag after this one is stored and then held.
+    /// The tag of a datagram of this many octets. Where it goes in pieces, the tag after this one is stored and then held.
     ///
     /// Only a failed put is an error. The tag is then as it was, but may not be used until it is opened again.
     pub fn take<K: Keeper>(&mut self, keeper: &mut K, octets: usize) -> Result<u16, Failed>

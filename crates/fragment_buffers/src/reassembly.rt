@@ -4,7 +4,7 @@ ghost use Rattle.std.specs.List.{remove};
 ghost use Rattle.block_pool.specs.Pool.{PoolState};
 ghost use Rattle.mesh_header.specs.Pieces.{IsPiece};
 ghost use Rattle.fragment_buffers.specs.Reassembly.{begun, placed};
-ghost use Rattle.fragment_buffers.specs.Taking.{taken, unexpired, blocks, grown};
+ghost use Rattle.fragment_buffers.specs.PieceIntake.{taken, unexpired, blocks, grown};
 ghost use Rattle.fragment_buffers.specs.FirstEnd.{first_end, IsStill};
 ghost use Rattle.fragment_buffers.specs.Entries.{entry_at, blocks_used, reassembly_in, reassemblies_in, Keeps, Moves, IsBounded};
 ghost use Rattle.fragment_buffers.specs.Answers.{answer_of, taken_of, octets_of, joined_at, settled_at, NoneIsNamed};
@@ -60,7 +60,7 @@ impl Model for Reassembly {
 
     ghost coded = { entries_code };
 
-    ghost use Rattle.fragment_buffers.specs.Holding.{entries_of, IsHolding};
+    ghost use Rattle.fragment_buffers.specs.HeldEntries.{entries_of, IsHolding};
 
     ghost view = { entries_of };
 

@@ -2,4 +2,4 @@ pub mod Limits
 pub mod Tables
 pub mod Given
 pub mod Admitted
-pub mod Leading
+pub mod AdmissionPuts

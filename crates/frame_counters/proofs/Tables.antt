@@ -2,10 +2,10 @@
 use Rattle.std.proofs.Common.{◌≡◌, ℕ, ◌^◌, ◌<◌, ◌≤◌, Some, None, Ok, length}
 use Rattle.store_tables.proofs.MarkEntries as entries
 use Rattle.frame_counters.specs.declared.fault.PeerFault.TheVariants.{Replayed, PeersFull}
-use Rattle.frame_counters.specs.PeerMarks.{Peer, Table, peer_in, octets_of, at_rest, place_of, room_for}
+use Rattle.frame_counters.specs.PeerMarks.{PeerMark, Table, peer_in, octets_of, at_rest, place_of, room_for}
 
 -- a record that is written is read back
-pub peer_in-octets_of : (peer : Peer) → peer.address < 0xFFFE → peer.stored < 2 ^ 32 → peer_in (octets_of peer) ≡ Some (at_rest peer)
+pub peer_in-octets_of : (peer : PeerMark) → peer.address < 0xFFFE → peer.stored < 2 ^ 32 → peer_in (octets_of peer) ≡ Some (at_rest peer)
 peer_in-octets_of = entries.mark_in-octets_of 0x0100 64
 
 -- where there is room for a new sender, not all slots are taken

@@ -9,8 +9,8 @@ use Rattle.frame_counters.specs.declared.fault.PeerFault.{PeerFault}
 use Rattle.frame_counters.specs.declared.fault.PeerFault.TheVariants.{Replayed, PeersFull, Store}
 
 -- a sender: its address, the counter that was last admitted of it, and the mark that is stored
-abbrev pub Peer : Type 0
-Peer = Mark 0x0100 64
+abbrev pub PeerMark : Type 0
+PeerMark = Mark 0x0100 64
 
 -- the senders in the order of their slots
 abbrev pub Table : Type 0
@@ -21,19 +21,19 @@ abbrev pub table_code : Coded Table
 table_code = marks.table_code 0x0100 64
 
 -- the sender that a record gives: an address in 2 octets and the stored mark in 4
-abbrev pub peer_in : List ℕ → Option Peer
+abbrev pub peer_in : List ℕ → Option PeerMark
 peer_in octets = marks.mark_in 0x0100 64 octets
 
 -- the record of a sender
-abbrev pub octets_of : Peer → List ℕ
+abbrev pub octets_of : PeerMark → List ℕ
 octets_of peer = marks.octets_of 0x0100 64 peer
 
 -- a sender as a new start finds it
-abbrev pub at_rest : Peer → Peer
+abbrev pub at_rest : PeerMark → PeerMark
 at_rest peer = marks.at_rest 0x0100 64 peer
 
 -- how the senders are stored
-abbrev pub peers : slots.Layout Peer
+abbrev pub peers : slots.Layout PeerMark
 peers = marks.layout 0x0100 64
 
 -- no mark is above the stored one
@@ -49,7 +49,7 @@ abbrev pub place_of : Table → ℕ → Option ℕ
 place_of table address = marks.place_of 0x0100 64 table address
 
 -- the sender at a place of the table
-abbrev pub peer_at : Table → ℕ → Peer
+abbrev pub peer_at : Table → ℕ → PeerMark
 peer_at table place = marks.mark_at 0x0100 64 table place
 
 -- the mark of a sender, if it is held
@@ -61,11 +61,11 @@ abbrev pub room_for : Table → ℕ → ℕ → Result (Unit {0}) PeerFault
 room_for table from counter = marks.room_for 0x0100 64 Replayed PeersFull table from counter
 
 -- a sender whose mark is stored anew, ahead of the counter
-abbrev pub peer_ahead : ℕ → ℕ → Peer
+abbrev pub peer_ahead : ℕ → ℕ → PeerMark
 peer_ahead from counter = marks.mark_ahead 0x0100 64 from counter
 
 -- the sender at a place with a higher mark
-abbrev pub advanced : Peer → ℕ → ℕ → Peer
+abbrev pub advanced : PeerMark → ℕ → ℕ → PeerMark
 advanced peer from counter = marks.advanced 0x0100 64 peer from counter
 
 -- what is stored before a counter is kept: nothing, where it is not above the stored mark

@@ -61,15 +61,15 @@ limit_write limit = numbers.limit_write limit_at limit
 abbrev pub raised : ℕ → ℕ
 raised limit = numbers.raised limit_at COUNTERS_AHEAD limit
 
--- whether so many counters pass the limit
+-- whether this many counters pass the limit
 abbrev pub passes : Counting → ℕ → Bool
 passes counting count = numbers.passes counting count
 
--- what is stored before so many counters are given out
+-- what is stored before this many counters are given out
 abbrev pub reserve_write : Counting → ℕ → Option Write
 reserve_write counting count = numbers.reserve_write limit_at COUNTERS_AHEAD counting count
 
--- the counter after so many were given out
+-- the counter after this many were given out
 abbrev pub reserved : Counting → ℕ → Counting
 reserved counting count = numbers.reserved limit_at COUNTERS_AHEAD counting count
 

@@ -26,5 +26,5 @@ mod peer_marks;
 mod send_counter;
 
 pub use fault::{CounterFault, PeerFault};
-pub use peer_marks::{Peer, PeerMarks};
+pub use peer_marks::{PeerMark, PeerMarks};
 pub use send_counter::{COUNTERS_AHEAD, SendCounter};

@@ -18,7 +18,7 @@ use std::marker::Model;
 use store_tables::{Mark, MarkTable, OpenFault};
 
 /// One sender: the counter that was last admitted of it, and the mark that is stored, which is no lower.
-pub type Peer = Mark<0x0100, 64>;
+pub type PeerMark = Mark<0x0100, 64>;
 
 /// The counter that was last admitted of each sender. The stored marks are ahead of it, so that no counter is admitted
 /// twice, also over losses of power, and most frames cost no put (IEEE 802.15.4-2006, 7.5.8.2.3).
@@ -81,7 +81,7 @@ impl PeerMarks {
     }
 
     /// The senders in the order of their slots: no two of one address, at most 64, and no mark above the stored one.
-    pub fn entries(&self) -> &[Peer]
+    pub fn entries(&self) -> &[PeerMark]
         ensures value { result.now ≡ self.now }
         ensures table { IsTable peers self.now }
         ensures covered { IsCovered self.now }

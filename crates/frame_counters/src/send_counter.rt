@@ -61,7 +61,7 @@ impl SendCounter {
         self.numbering.left()
     }
 
-    /// Gives out so many counters in a row, and answers the first. Where they pass the limit, a higher one is stored first.
+    /// Gives out this many counters in a row, and answers the first. Where they pass the limit, a higher one is stored first.
     ///
     /// Only a failed put is an error. The counter is then as it was, but may not be used until it is opened again.
     pub fn reserve<K: Keeper>(&mut self, keeper: &mut K, count: u32) -> Result<u32, Failed>

@@ -7,8 +7,8 @@ use Rattle.mac_frames.specs.declared.head.MacHead.{MacHead}
 use Rattle.mac_frames.specs.declared.head.MacHead.TheVariants.{Sealed, Up, Down}
 use Rattle.mac_frames.specs.declared.fault.FrameFaultKind.{FrameFaultKind}
 use Rattle.mac_frames.specs.Faults.{frame_fault}
-use Rattle.mac_frames.specs.Reading.{head_in, body_in}
-use Rattle.mac_frames.specs.Sealing.{opened_in, payload_in}
+use Rattle.mac_frames.specs.Reader.{head_in, body_in}
+use Rattle.mac_frames.specs.SealedFrames.{opened_in, payload_in}
 
 -- what a buffer holds, where that is a payload
 abbrev pub held : Bool → List ℕ → Option (List ℕ)

@@ -5,15 +5,15 @@ use Rattle.mac_frames.specs.declared.head.MacHead.{MacHead}
 use Rattle.mac_frames.specs.declared.head.MacHead.TheVariants.{Sealed, Up, Down}
 use Rattle.mac_frames.specs.declared.fault.FrameFaultKind.{FrameFaultKind}
 use Rattle.mac_frames.specs.Faults.{frame_fault}
-use Rattle.mac_frames.specs.Reading.{head_in}
+use Rattle.mac_frames.specs.Reader.{head_in}
 use Rattle.mesh_header.specs.declared.unit.Unit.{Unit}
 use Rattle.mesh_header.specs.declared.unit.Unit.TheVariants.{Whole, Part, Carried, Local}
-use Rattle.mesh_header.specs.Reading.{unit_in}
+use Rattle.mesh_header.specs.Reader.{unit_in}
 use Rattle.loadng_messages.specs.declared.message.Message.{Message}
 use Rattle.loadng_messages.specs.declared.message.Message.TheVariants.{Rreq, Rrep, Rerr}
-use Rattle.loadng_messages.specs.Reading.{message_in}
+use Rattle.loadng_messages.specs.Reader.{message_in}
 use Rattle.joining_messages.specs.declared.message.JoinMessage.{JoinMessage}
-use Rattle.joining_messages.specs.Reading.{join_in}
+use Rattle.joining_messages.specs.Reader.{join_in}
 use Rattle.frame_words.specs.declared.gist.FrameTarget.{FrameTarget}
 use Rattle.frame_words.specs.declared.gist.FrameTarget.TheVariants.{Nobody, All, Node, Device}
 use Rattle.frame_words.specs.declared.gist.Gist.{Gist}

@@ -28,7 +28,7 @@ pub enum FrameTarget {
 pub enum Gist {
     /// No unit, or a command whose body is none of its code's.
     Unread,
-    /// A datagram or a piece of one, with so many hops left to it.
+    /// A datagram or a piece of one, with this many hops left to it.
     Bears { hops: u8 },
     /// A route request: by the node with the address `origin`, for the one with the address `sought`, with the cost so far.
     Seeks { origin: u16, sought: u16, cost: u16 },

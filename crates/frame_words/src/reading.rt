@@ -1,9 +1,9 @@
 //! What octets are, where they are something: the readers of nodes, without their faults.
 ghost use Rattle.std.specs.Prelude.{◌≡◌, ◌≤◌, length};
 ghost use Rattle.plc_base.specs.declared.limits.TheConstants.{LONGEST_FRAME};
-ghost use Rattle.mesh_header.specs.Reading as units;
-ghost use Rattle.loadng_messages.specs.Reading as routes;
-ghost use Rattle.joining_messages.specs.Reading as joinings;
+ghost use Rattle.mesh_header.specs.Reader as units;
+ghost use Rattle.loadng_messages.specs.Reader as routes;
+ghost use Rattle.joining_messages.specs.Reader as joinings;
 
 use joining_messages::{JoinMessage, read_join};
 use loadng_messages::{Message, read_message};

@@ -7,7 +7,7 @@ use Rattle.aes_modes.specs.Ccm.{ccm_tag, ccm_text}
 use Rattle.aes_modes.proofs.Texts.{length-ccm_text, length-ccm_tag}
 use Rattle.mac_frames.specs.declared.head.MacHead.{MacHead}
 use Rattle.mac_frames.specs.Grammar.{header}
-use Rattle.mac_frames.specs.Sealing.{SealedFrame, nonce_of}
+use Rattle.mac_frames.specs.SealedFrames.{SealedFrame, nonce_of}
 use Rattle.mac_frames.proofs.Headers.{header_then-append, length-header}
 
 pub sealed_length : (head : MacHead) (key payload octets : List ℕ) → SealedFrame head key payload octets → length octets ≡ length payload + 19

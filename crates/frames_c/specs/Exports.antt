@@ -4,8 +4,8 @@ use Rattle.plc_base.specs.Faults.{◌then◌, ◌when◌, ◌unless◌}
 use Rattle.plc_base.specs.declared.fields.Fault.{Fault}
 use Rattle.mac_frames.specs.declared.fault.FrameFaultKind.{FrameFaultKind}
 use Rattle.mac_frames.specs.Faults.{frame_fault, is_sealed}
-use Rattle.mac_frames.specs.Reading.{body_in, head_in}
-use Rattle.mac_frames.specs.Sealing.{opened_in}
+use Rattle.mac_frames.specs.Reader.{body_in, head_in}
+use Rattle.mac_frames.specs.SealedFrames.{opened_in}
 use Rattle.frames_c.specs.declared.head.FramesHead.{FramesHead}
 use Rattle.frames_c.specs.declared.refusal.Refusal.{Refusal}
 use Rattle.frames_c.specs.declared.refusal.Refusal.TheVariants.{Key, Head, Payload, Room, NotSealed, Tag}

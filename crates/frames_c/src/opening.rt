@@ -1,11 +1,11 @@
 //! Opens a sealed frame.
 ghost use Rattle.std.specs.Prelude.{◌≡◌, ◌≢◌, ◌+◌, ◌++◌, length, take, drop, None, Some, OnErr, MatchOption, MatchResult, IfOk, IfSome, true, false};
 ghost use Rattle.mac_frames.specs.Grammar.{Frame, IsSealed};
-ghost use Rattle.mac_frames.specs.Reading.{body_in, head_in};
-ghost use Rattle.mac_frames.specs.Sealing.{SealedFrame};
+ghost use Rattle.mac_frames.specs.Reader.{body_in, head_in};
+ghost use Rattle.mac_frames.specs.SealedFrames.{SealedFrame};
 ghost use Rattle.frames_c.specs.Exports.{is_sealed_frame, open_refusal, status_of};
 
-use crate::copying::copy_to;
+use crate::copying::write_front;
 use crate::key::schedule_of;
 use crate::refusal::Refusal;
 use crate::sealing::AROUND;
@@ -13,7 +13,7 @@ use mac_frames::{MacHead, RawFrame, open_frame, read_frame};
 use plc_base::FrameBuf;
 
 // The sealed frame that the octets are.
-#[tactic(auto, unfolding(crate::specs::Exports::is_sealed_frame, mac_frames::specs::Reading::head_in))]
+#[tactic(auto, unfolding(crate::specs::Exports::is_sealed_frame, mac_frames::specs::Reader::head_in))]
 fn sealed_frame<'a>(frame: &'a [u8]) -> Option<RawFrame<'a>>
     ensures exact { MatchOption result (is_sealed_frame frame.now ≡ false) (λ _. is_sealed_frame frame.now ≡ true) }
     ensures sealed { IfSome result (λ raw. IsSealed raw.head) }
@@ -53,7 +53,7 @@ fn open(key: &[u8], frame: &[u8], payload: &mut [u8]) -> Result<usize, Refusal>
     if open_frame(&aes, &raw, &mut text).is_err() {
         return Err(Refusal::Tag);
     }
-    copy_to(payload, text.octets());
+    write_front(payload, text.octets());
     Ok(text.len())
 }
 

@@ -2,7 +2,7 @@
 ghost use Rattle.std.specs.Prelude.{◌≡◌, ◌≢◌};
 ghost use Rattle.mac_frames.specs.Faults.{frame_fault};
 ghost use Rattle.mac_frames.specs.Grammar.{Frame};
-ghost use Rattle.mac_frames.specs.Reading.{body_in, head_in};
+ghost use Rattle.mac_frames.specs.Reader.{body_in, head_in};
 ghost use Rattle.frames_c.specs.Exports.{read_place, read_status};
 ghost use Rattle.frames_c.specs.Heads.{c_head};
 

@@ -1,10 +1,10 @@
 //! Seals a payload.
 ghost use Rattle.std.specs.Prelude.{◌≡◌, ◌≢◌, ◌+◌, length, take, drop, None, Some, OnErr, MatchResult, IfOk};
-ghost use Rattle.mac_frames.specs.Sealing.{SealedFrame};
+ghost use Rattle.mac_frames.specs.SealedFrames.{SealedFrame};
 ghost use Rattle.frames_c.specs.Exports.{seal_refusal, status_of};
 ghost use Rattle.frames_c.specs.Heads.{mac_head};
 
-use crate::copying::copy_to;
+use crate::copying::write_front;
 use crate::head::{FramesHead, sealed_head};
 use crate::key::schedule_of;
 use crate::refusal::Refusal;
@@ -41,7 +41,7 @@ fn seal(key: &[u8], head: &FramesHead, payload: &[u8], out: &mut [u8]) -> Result
     }
     let mut frame = FrameBuf::new();
     seal_frame(&aes, &head, payload, &mut frame);
-    copy_to(out, frame.octets());
+    write_front(out, frame.octets());
     Ok(frame.len())
 }
 

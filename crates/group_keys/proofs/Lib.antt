@@ -1,3 +1,3 @@
 pub mod Rings
 pub mod Books
-pub mod Leading
+pub mod EntryPuts

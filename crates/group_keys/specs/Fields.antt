@@ -3,7 +3,7 @@ use Rattle.std.specs.Prelude.{ℕ, Bool, true, false, ◌==◌, nat_eq, if◌the
 use Rattle.std.specs.Cmp.Lexicographic.{pointwise}
 use Rattle.plc_base.specs.declared.key.Key.{Key}
 
--- whether these are so many zeros
+-- whether these are this many zeros
 abbrev pub are_zeros : ℕ → List ℕ → Bool
 are_zeros n octets = pointwise nat_eq octets (replicate n 0)
 

@@ -11,7 +11,7 @@ use Rattle.host_calls.specs.declared.calls.Call.TheVariants as calls
 
 -- # Fields
 
--- the number in so many octets from a place on
+-- the number in this many octets from a place on
 abbrev pub number_at : ℕ → ℕ → List ℕ → ℕ
 number_at count at octets = big_number count (drop at octets)
 
@@ -78,7 +78,7 @@ broke_in octets = if length octets == 2 then option_map (λ next. calls.Broke ne
 
 -- # The call of an item
 
--- the call of this kind with these octets, None where there is none
+-- the call of this kind with these octets, None if there is none
 abbrev pub call_in : ℕ → List ℕ → Option Call
 call_in kind octets =
     if kind == 0x03 then provision_in octets else

@@ -3,7 +3,7 @@ ghost use Rattle.std.specs.Prelude.{◌≡◌};
 ghost use Rattle.host_calls.specs.Calls.{call_in, granted, provision_in, near_in, random_in, join_in, leave_in, tick_in, send_in, hear_in, broke_in};
 
 use crate::fields::{address_at, cost_at, eight_at, four_at, index_at, rest};
-use plc_base::{Grant, Key, KeyIndex, LinkCost, OctetRef, Rand, Short, octets_at};
+use plc_base::{Grant, Key, KeyIndex, LinkCost, OctetRef, RandomOctets, Short, octets_at};
 
 /// A call of a meter. Octets stay where they are: in the item.
 #[derive(Drop)]
@@ -20,7 +20,7 @@ pub enum Call<'a> {
         now: u64,
     },
     /// 05: gives a random value.
-    Random(Rand),
+    Random(RandomOctets),
     /// 06: begins to join.
     Join {
         /// The agent.
@@ -147,7 +147,7 @@ fn read_random<'a>(octets: &'a [u8]) -> Option<Call<'a>>
     let Ok(value) = octets_at::<16>(octets, 0) else {
         return None;
     };
-    Some(Call::Random(Rand(value)))
+    Some(Call::Random(RandomOctets(value)))
 }
 
 // The octets of JOIN.

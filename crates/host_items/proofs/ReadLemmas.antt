@@ -3,7 +3,7 @@ use Rattle.std.proofs.Common.{◌≡◌, ℕ, Bool, true, false, List, ◌++◌,
 use Rattle.std.proofs.KnownBytes.{Consumes-trans}
 use Rattle.plc_base.specs.declared.streams.Failed.{Failed}
 use Rattle.plc_base.specs.Streams.{SourceState, SourceFaults}
-use Rattle.host_items.specs.Reading.{IsFilled, IsTorn, HasFailed}
+use Rattle.host_items.specs.ItemReader.{IsFilled, IsTorn, HasFailed}
 
 pub torn : (first middle last : SourceState) (head octets : List ℕ) (count : ℕ) (whole more : Bool) → IsFilled first middle 3 head (Ok whole) → whole ≡ true
     → IsFilled middle last count octets (Ok more) → more ≡ false → IsTorn first last

@@ -1,4 +1,4 @@
--- Items of octets: a kind, a length, and so many octets.
+-- Items of octets: a kind, a length, and this many octets.
 use Rattle.std.specs.Prelude.{◌≡◌, ℕ, ◌+◌, ◌*◌, ◌/◌, ◌%◌, nat_lt, List, [], ◌∷◌, ◌++◌, length, take, drop, Option, Some, None, if◌then◌else◌}
 
 pub record Item : Type 0 where
@@ -14,7 +14,7 @@ pub record Read : Type 0 where
   pub item : Item
   pub rest : List ℕ
 
--- so many octets as an item, where there are so many
+-- this many octets as an item, where there are this many
 abbrev pub item_of : (kind count : ℕ) → List ℕ → Option Read
 item_of kind count octets =
     if nat_lt (length octets) count then None

@@ -2,7 +2,7 @@
 ghost use Rattle.std.specs.Prelude.{◌≡◌, ◌≤◌, ◌<◌, length};
 ghost use Rattle.plc_base.specs.Streams.{SourceFaults, HasWritten};
 ghost use Rattle.host_items.specs.Items.{spelling};
-ghost use Rattle.host_items.specs.Reading.{IsOctetRead, IsFilled, IsItemRead};
+ghost use Rattle.host_items.specs.ItemReader.{IsOctetRead, IsFilled, IsItemRead};
 
 use plc_base::{Failed, Octets, Sink, Source, write_all};
 use thiserror::Error;
@@ -63,7 +63,7 @@ fn read_octet<S: Source>(source: &mut S) -> Result<Option<u8>, Failed>
     }
 }
 
-// Reads so many octets, and answers whether there were so many: the input may end before.
+// Reads this many octets, and answers whether there were this many: the input may end before.
 fn fill<S: Source, const N: usize>(
     source: &mut S,
     octets: &mut Octets<N>,

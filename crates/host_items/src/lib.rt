@@ -1,6 +1,6 @@
 //! Items: the octets in which a program that holds a node talks with its owner over a pipe.
 //!
-//! An item is a kind, a length of two octets, the highest first, and so many octets, at most 2,000. So each item is read without knowing its
+//! An item is a kind, a length of two octets, the highest first, and this many octets, at most 2,000. So each item is read without knowing its
 //! kind. What its calls promise:
 //!
 //! - What is written is the item's spelling, or a prefix of it where the sink fails ([`write_item`]).

@@ -1,13 +1,13 @@
 //! Joining messages on their way: in a plain frame, or as the body of a command.
 ghost use Rattle.std.specs.Prelude.{◌≡◌, ◌<◌, ◌≤◌, ◌++◌, ◌∷◌, [], IfSome, length};
 ghost use Rattle.joining_messages.specs.Messages.{IsMessage};
-ghost use Rattle.joining_messages.specs.Reading.{join_in};
+ghost use Rattle.joining_messages.specs.Reader.{join_in};
 ghost use Rattle.mac_frames.specs.Grammar.{IsPlain};
 ghost use Rattle.mac_frames.specs.Grammar as heads;
 ghost use Rattle.node_rules.specs.Ciphers.{network};
 ghost use Rattle.node_rules.specs.Frames.{spelled};
 ghost use Rattle.node_rules.specs.Frames as frames;
-ghost use Rattle.node_rules.specs.Joining.{command_of};
+ghost use Rattle.node_rules.specs.JoiningPackets.{command_of};
 ghost use Rattle.plc_base.specs.declared.limits.TheConstants.{MOST_FRAMES};
 
 use joining_messages::{JoinBody, JoinMessage, read_join, write_join};

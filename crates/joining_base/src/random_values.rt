@@ -3,20 +3,20 @@ ghost use Rattle.std.specs.Prelude.{◌≡◌, ◌≤◌, ◌++◌, ◌∷◌, [
 
 use arrayvec::ArrayVec;
 use node_rules::RandomFault;
-use plc_base::Rand;
+use plc_base::RandomOctets;
 use std::marker::Model;
 
 /// The random values that a node was given and has not used yet, at most 8, the oldest first. A contract sees the list of them.
 #[derive(Drop)]
 pub struct RandomValues {
-    items: ArrayVec<Rand, 8>,
+    items: ArrayVec<RandomOctets, 8>,
 }
 
 impl Model for RandomValues {
     ghost use Rattle.std.specs.Prelude.{List};
-    ghost use Rattle.plc_base.specs.declared.key.Rand.{Rand};
+    ghost use Rattle.plc_base.specs.declared.key.RandomOctets.{RandomOctets};
 
-    ghost Value = { List Rand };
+    ghost Value = { List RandomOctets };
 
     ghost view = { λ r. r.items.items };
 }
@@ -32,7 +32,7 @@ impl RandomValues {
     }
 
     /// Takes a value in, after the others. RandomsFull exactly where 8 are held; nothing has changed then.
-    pub fn give(&mut self, value: Rand) -> Result<(), RandomFault>
+    pub fn give(&mut self, value: RandomOctets) -> Result<(), RandomFault>
         ensures taken { OnOk result (self.new ≡ self.old ++ value ∷ []) }
         ensures full { MatchResult result (λ _. nat_lt 7 (length self.old) ≡ false)
             (λ e. (e ≡ RandomFault.RandomsFull) × (nat_lt 7 (length self.old) ≡ true)) }
@@ -54,7 +54,7 @@ impl RandomValues {
     }
 
     /// The oldest value, None where none is held.
-    pub fn oldest(&self) -> Option<Rand>
+    pub fn oldest(&self) -> Option<RandomOctets>
         ensures { result ≡ slice_get self.now 0 }
     {
         self.items.as_slice().get(0).copied()

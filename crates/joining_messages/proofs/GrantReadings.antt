@@ -15,7 +15,7 @@ use Rattle.plc_base.specs.declared.key.Key.{Key}
 use Rattle.plc_base.proofs.Places.{after_all, after_none, length-part, one_then, part_then, two_behind, two_then}
 use Rattle.joining_messages.specs.Grants.{IsGranted, SpellsGrant, grant_spelling, key_then, stands, address_stands, index_stands, sixteen_stand, head_stands}
 use Rattle.joining_messages.specs.Grants.{key_stands, keys_stand, is_parameter_list}
-use Rattle.joining_messages.specs.Reading.{granted_in, grant_in, key_at}
+use Rattle.joining_messages.specs.Reader.{granted_in, grant_in, key_at}
 use Rattle.joining_messages.specs.Laws.{GrantsAreRead, ReadGrantsAreSpelled}
 use Rattle.joining_messages.proofs.GrantLaws.{spelled_true}
 

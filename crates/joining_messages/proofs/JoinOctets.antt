@@ -12,7 +12,7 @@ use Rattle.joining_messages.specs.declared.message.JoinBody.{JoinBody}
 use Rattle.joining_messages.specs.declared.message.JoinBody.TheVariants.{Join, Accept, Challenge, Decline, Kick, Activate}
 use Rattle.joining_messages.specs.Messages.{code_of, rest_of, spelling}
 use Rattle.joining_messages.specs.Grants.{key_then, is_parameter_list}
-use Rattle.joining_messages.specs.Reading.{key_at, granted_in, grant_in}
+use Rattle.joining_messages.specs.Reader.{key_at, granted_in, grant_in}
 use Rattle.joining_messages.specs.Laws.{JoinSpellingsAreOctets, ReadJoinsHaveOctets, GrantSpellingsAreOctets, ReadGrantsHaveOctets, GrantHasOctets}
 use Rattle.joining_messages.proofs.Readings.{join_spelled}
 

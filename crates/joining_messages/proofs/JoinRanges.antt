@@ -16,7 +16,7 @@ use Rattle.joining_messages.specs.declared.fault.JoinFaultKind.TheVariants as ki
 use Rattle.joining_messages.specs.Messages.{rest_of}
 use Rattle.joining_messages.specs.Faults.{code_fault, eui_fault, join_rest_fault, accept_rest_fault, challenge_rest_fault, no_rest_fault, rest_fault}
 use Rattle.joining_messages.specs.Faults.{join_fault, is_index, activate_rest_fault}
-use Rattle.joining_messages.specs.Reading.{join_in, body_in}
+use Rattle.joining_messages.specs.Reader.{join_in, body_in}
 use Rattle.joining_messages.specs.Laws.{ReadJoinsFit}
 
 then_none : {F : Type 0} (a b : Option F) → (a then b) ≡ None → (a ≡ None) × (b ≡ None)

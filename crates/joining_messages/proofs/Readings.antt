@@ -19,7 +19,7 @@ use Rattle.joining_messages.specs.declared.message.JoinBody.TheVariants.{Join, A
 use Rattle.joining_messages.specs.Messages.{IsBody, Spells, code_of, rest_of, spelling}
 use Rattle.joining_messages.specs.Faults.{code_fault, eui_fault, join_rest_fault, challenge_rest_fault, is_success, accept_rest_fault, is_index}
 use Rattle.joining_messages.specs.Faults.{activate_rest_fault, no_rest_fault, rest_fault, join_fault}
-use Rattle.joining_messages.specs.Reading.{body_in, join_in}
+use Rattle.joining_messages.specs.Reader.{body_in, join_in}
 use Rattle.joining_messages.specs.Laws.{JoinsAreRead, ReadJoinsAreSpelled}
 use Rattle.joining_messages.proofs.Rests.{one_is, four_are}
 use Rattle.joining_messages.proofs.Spellings.{no_fault}

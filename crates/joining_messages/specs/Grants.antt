@@ -18,7 +18,7 @@ pub record IsGranted (granted : Granted) : Type 0 where
   pub first : IsPlace granted.key0
   pub second : IsPlace granted.key1
 
--- a key's parameter, where one is held, in front of what follows it
+-- a key's parameter, where one is held, before what follows it
 abbrev pub key_then : ℕ → Option Key → List ℕ → List ℕ
 key_then index None rest = rest
 key_then index (Some key) rest = 3 ∷ 0x11 ∷ index ∷ key.0 ++ rest

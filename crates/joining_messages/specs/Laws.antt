@@ -6,7 +6,7 @@ use Rattle.joining_messages.specs.declared.message.JoinMessage.{JoinMessage}
 use Rattle.joining_messages.specs.declared.message.JoinBody.TheVariants.{Activate}
 use Rattle.joining_messages.specs.Messages.{Spells, spelling, rest_of}
 use Rattle.joining_messages.specs.Grants.{SpellsGrant, grant_spelling}
-use Rattle.joining_messages.specs.Reading.{join_in, grant_in}
+use Rattle.joining_messages.specs.Reader.{join_in, grant_in}
 
 -- the joining message that octets spell is read out of them
 abbrev pub JoinsAreRead : Type 0

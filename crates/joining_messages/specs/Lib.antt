@@ -1,5 +1,5 @@
 pub mod Messages
 pub mod Faults
 pub mod Grants
-pub mod Reading
+pub mod Reader
 pub mod Laws

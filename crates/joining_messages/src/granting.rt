@@ -5,7 +5,7 @@ ghost use Rattle.plc_base.specs.Addresses.{IsAddress};
 ghost use Rattle.plc_base.specs.Faults.{ReadsWhen};
 ghost use Rattle.plc_base.specs.Fields.{octet, after};
 ghost use Rattle.plc_base.specs.Grant.{Granted};
-ghost use Rattle.joining_messages.specs.Reading.{grant_in};
+ghost use Rattle.joining_messages.specs.Reader.{grant_in};
 ghost use Rattle.joining_messages.specs.Grants.{IsGranted, IsPlace, SpellsGrant, grant_spelling, key_then, stands, address_stands, index_stands, sixteen_stand};
 ghost use Rattle.joining_messages.specs.Grants.{head_stands, key_stands, is_parameter_list};
 

@@ -3,7 +3,7 @@ ghost use Rattle.std.specs.Prelude.{◌≡◌, ◌≤◌, ◌<◌, ◌+◌, ◌�
 ghost use Rattle.std.specs.Result.{result_ok};
 ghost use Rattle.plc_base.specs.Fields.{octet, after};
 ghost use Rattle.plc_base.specs.Faults.{ReadsUnless};
-ghost use Rattle.joining_messages.specs.Reading.{join_in};
+ghost use Rattle.joining_messages.specs.Reader.{join_in};
 ghost use Rattle.joining_messages.specs.Messages.{IsBody, Spells, rest_of, code_of};
 ghost use Rattle.joining_messages.specs.Faults.{code_fault, eui_fault, join_rest_fault, challenge_rest_fault, accept_rest_fault, activate_rest_fault};
 ghost use Rattle.joining_messages.specs.Faults.{no_rest_fault, rest_fault, join_fault};

@@ -1,5 +1,5 @@
-pub mod Changing
+pub mod ChangedNodes
 pub mod Ears
-pub mod Mapping
-pub mod Putting
+pub mod MappedLists
+pub mod CalendarPuts
 pub mod Quotients

@@ -14,7 +14,7 @@ quotient_nine n d h = quotient_low n d 9 (omega arith) h
 pub quotient_long : (n d : ℕ) → 133 ≤ d → (n / d) * 133 ≤ n
 quotient_long n d h = quotient_low n d 133 (omega arith) h
 
--- the time of so many segments
+-- the time of this many segments
 pub product_short : (a b : ℕ) → a ≤ 493 → b < 524288 → a * b < 268435456
 product_short a b h k = omega (arith, product_low a b 493 524287 h (omega arith))
 

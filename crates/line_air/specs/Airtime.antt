@@ -38,7 +38,7 @@ longest D8psk = 235
 abbrev pub rounded_up : ℕ → ℕ → ℕ
 rounded_up n d = (n + d - 1) / d
 
--- a segment of so many octets: its head, then as many symbols as its octets, its parity and six bits that end the code take
+-- a segment of this many octets: its head, then as many symbols as its octets, its parity and six bits that end the code take
 unfoldable pub segment : Rate → ℕ → ℕ
 segment rate octets = head + rounded_up (2 * ((octets + parity rate) * 8 + 6)) (twice_bits rate) * symbol
 

@@ -6,15 +6,15 @@ use Rattle.air_draws.specs.Draws.{happens, after}
 use Rattle.line_place.specs.declared.link.Link.{Link}
 use Rattle.line_air.specs.declared.chances.End.{End}
 use Rattle.line_air.specs.declared.nodes.Heard.{Heard}
-use Rattle.line_air.specs.Disturbing.{Disturbed, loss_at}
+use Rattle.line_air.specs.Disturbances.{Disturbed, loss_at}
 use Rattle.line_air.specs.Nodes.{NodeState, has_power, may_hear_all, is_one}
 
--- the draws after so many
+-- the draws after this many
 unfoldable pub after_draws : ℕ → Lcg → Lcg
 after_draws zero g = g
 after_draws (suc k) g = after (after_draws k g)
 
--- how many of so many segments come, a draw for each
+-- how many of this many segments come, a draw for each
 unfoldable pub come : ℕ → ℕ → Lcg → ℕ
 come chance zero g = 0
 come chance (suc k) g = come chance k g + cond (happens chance (after_draws k g)) 0 1

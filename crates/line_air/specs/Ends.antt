@@ -17,7 +17,7 @@ use Rattle.line_air.specs.declared.nodes.Heard.{Heard}
 use Rattle.line_air.specs.declared.settings.Settings.{Settings}
 use Rattle.line_air.specs.Chances.{come, after_draws, Drawing, drawn_for_all, drawn_beside}
 use Rattle.line_air.specs.Counts.{breaks, counts_after, counts_without}
-use Rattle.line_air.specs.Disturbing.{Disturbed, is_withheld, loss_at}
+use Rattle.line_air.specs.Disturbances.{Disturbed, is_withheld, loss_at}
 use Rattle.line_air.specs.Nodes.{NodeState, has_power, is_one, first_of, changed, with_sending, waiting_first, first_gone, silenced_by}
 use Rattle.line_air.specs.Turns.{AirState}
 

@@ -1,7 +1,7 @@
 pub mod Airtime
 pub mod Numbered
 pub mod Calendars
-pub mod Disturbing
+pub mod Disturbances
 pub mod Nodes
 pub mod Chances
 pub mod Counts

@@ -21,7 +21,7 @@ use Rattle.line_air.specs.declared.settings.Rate.TheVariants.{Robo}
 use Rattle.line_air.specs.declared.spans.Sending.{Sending}
 use Rattle.line_air.specs.Airtime.{airtime}
 use Rattle.line_air.specs.Calendars.{put}
-use Rattle.line_air.specs.Disturbing.{Disturbed}
+use Rattle.line_air.specs.Disturbances.{Disturbed}
 use Rattle.line_air.specs.Nodes.{NodeState, new_node, is_busy, may_arm, has_power, is_one, first_of, changed, with_armed, armed_with, with_sending}
 use Rattle.line_air.specs.Nodes.{waiting_first, first_gone, with_frame, heard_by}
 
@@ -57,7 +57,7 @@ pub record Sky : Type 0 where
 abbrev pub with_nodes : List NodeState → Sky → Sky
 with_nodes nodes s = record s { air = record s.air { nodes = nodes } }
 
--- a time so much later; the clock ends after 584,000 years
+-- a time this much later; the clock ends after 584,000 years
 abbrev pub time_after : ℕ → ℕ → ℕ
 time_after now wait = min (now + wait) 18446744073709551615
 

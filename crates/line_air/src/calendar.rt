@@ -65,7 +65,7 @@ impl Calendar {
     }
 
     /// Puts a moment at a time, after all that is due no later. Where memory runs out, or after 2^64 - 1 moments, nothing changes.
-    #[tactic(auto, using(crate::proofs::Putting::putting))]
+    #[tactic(auto, using(crate::proofs::CalendarPuts::putting))]
     pub fn put(&mut self, at: u64, moment: Moment) -> Result<(), AllocError>
         ensures { OnOk result (self.new ≡ put at moment self.old) }
     {
@@ -78,7 +78,7 @@ impl Calendar {
     }
 
     /// When the first moment is due.
-    #[tactic(auto, using(crate::proofs::Putting::putting))]
+    #[tactic(auto, using(crate::proofs::CalendarPuts::putting))]
     pub fn first(&self) -> Option<u64>
         ensures { result ≡ first_time self.now }
     {
@@ -89,7 +89,7 @@ impl Calendar {
     }
 
     /// Takes the first moment out, with its time.
-    #[tactic(auto, using(crate::proofs::Putting::putting))]
+    #[tactic(auto, using(crate::proofs::CalendarPuts::putting))]
     pub fn take(&mut self) -> Option<Due>
         ensures first { result ≡ first_due self.old }
         ensures rest { self.new ≡ later self.old }

@@ -21,7 +21,7 @@ pub struct End {
     pub segments: u32,
 }
 
-// How many of so many segments come, where each is lost with a chance. Each is a draw.
+// How many of this many segments come, where each is lost with a chance. Each is a draw.
 #[tactic(auto, unfolding(crate::specs::Chances::come, crate::specs::Chances::after_draws))]
 pub(crate) fn segments_come(loss: &mut Draws, chance: u32, segments: u32) -> u32
     ensures value { result ≡ come chance segments loss.old }

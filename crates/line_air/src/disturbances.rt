@@ -1,6 +1,7 @@
 //! What disturbs the line for a time.
 ghost use Rattle.std.specs.Prelude.{◌≡◌, ◌≤◌, ◌++◌, ◌∷◌, [], eqb, ◌&&◌, OnOk, OnErr};
-ghost use Rattle.line_air.specs.Disturbing.{is_during, is_noisy, louder, loss_after, loss_with, is_cut_between, is_cut, is_withheld_from, is_withheld, loss_at};
+ghost use Rattle.line_air.specs.Disturbances.{is_during, is_noisy, louder, loss_after, loss_with, is_cut_between, is_cut, is_withheld_from, is_withheld};
+ghost use Rattle.line_air.specs.Disturbances.{loss_at};
 
 use std::alloc::{AllocError, Global};
 use std::marker::Model;
@@ -54,7 +55,7 @@ fn is_during(now: u64, from: u64, until: u64) -> bool
 
 impl Noise {
     /// Whether it is heard at a node at a time.
-    #[tactic(auto, unfolding(crate::specs::Disturbing::is_noisy))]
+    #[tactic(auto, unfolding(crate::specs::Disturbances::is_noisy))]
     pub fn is_at(&self, now: u64, node: u32) -> bool
         ensures { result ≡ is_noisy self.now now node }
     {
@@ -68,7 +69,7 @@ impl Noise {
     }
 
     // The loss on a link to a node with this noise.
-    #[tactic(auto, unfolding(crate::specs::Disturbing::loss_after))]
+    #[tactic(auto, unfolding(crate::specs::Disturbances::loss_after))]
     fn loss_after(&self, now: u64, node: u32, loss: u32) -> u32
         requires { loss ≤ 10000 }
         ensures value { result ≡ loss_after now node loss self.now }
@@ -93,7 +94,7 @@ impl CutLink {
     }
 
     /// Whether the link between two nodes is cut at a time.
-    #[tactic(auto, unfolding(crate::specs::Disturbing::is_cut_between))]
+    #[tactic(auto, unfolding(crate::specs::Disturbances::is_cut_between))]
     pub fn is_between(&self, now: u64, a: u32, b: u32) -> bool
         ensures { result ≡ is_cut_between now a b self.now }
     {
@@ -109,7 +110,7 @@ impl CutLink {
 
 impl Withheld {
     /// Whether frames are kept from a node at a time.
-    #[tactic(auto, unfolding(crate::specs::Disturbing::is_withheld_from))]
+    #[tactic(auto, unfolding(crate::specs::Disturbances::is_withheld_from))]
     pub fn is_from(&self, now: u64, node: u32) -> bool
         ensures { result ≡ is_withheld_from now node self.now }
     {
@@ -132,7 +133,7 @@ pub struct Disturbances {
 }
 
 impl Model for Disturbances {
-    ghost use Rattle.line_air.specs.Disturbing.{Disturbed};
+    ghost use Rattle.line_air.specs.Disturbances.{Disturbed};
 
     ghost Value = { Disturbed };
 
@@ -180,7 +181,7 @@ impl Disturbances {
 
     /// The chance that a frame is lost on a link at a time, where it is `loss` without disturbance. Each noise loses its part of what
     /// would come; nothing comes over a link that is cut.
-    #[tactic(auto, unfolding(crate::specs::Disturbing::loss_at))]
+    #[tactic(auto, unfolding(crate::specs::Disturbances::loss_at))]
     pub fn loss_at(&self, now: u64, from: u32, to: u32, loss: u32) -> u32
         ensures { result ≡ loss_at self.now now from to loss }
     {
@@ -191,7 +192,7 @@ impl Disturbances {
     }
 
     /// Whether an attacker keeps the frames that are meant for a node at a time.
-    pub fn withholds(&self, now: u64, node: u32) -> bool
+    pub fn attacker_keeps(&self, now: u64, node: u32) -> bool
         ensures { result ≡ is_withheld self.now.withheld now node }
     {
         is_withheld(&self.withheld, now, node)
@@ -199,7 +200,7 @@ impl Disturbances {
 }
 
 // Whether the link between two nodes is cut at a time.
-#[tactic(auto, unfolding(crate::specs::Disturbing::is_cut))]
+#[tactic(auto, unfolding(crate::specs::Disturbances::is_cut))]
 fn is_cut(cuts: &[CutLink], now: u64, a: u32, b: u32) -> bool
     ensures { result ≡ is_cut cuts.now now a b }
 {
@@ -207,7 +208,7 @@ fn is_cut(cuts: &[CutLink], now: u64, a: u32, b: u32) -> bool
 }
 
 // Whether frames are kept from a node at a time.
-#[tactic(auto, unfolding(crate::specs::Disturbing::is_withheld))]
+#[tactic(auto, unfolding(crate::specs::Disturbances::is_withheld))]
 fn is_withheld(withheld: &[Withheld], now: u64, node: u32) -> bool
     ensures { result ≡ is_withheld withheld.now now node }
 {
@@ -215,7 +216,7 @@ fn is_withheld(withheld: &[Withheld], now: u64, node: u32) -> bool
 }
 
 // The loss on a link to a node with all noises of a time.
-#[tactic(auto, unfolding(crate::specs::Disturbing::loss_with))]
+#[tactic(auto, unfolding(crate::specs::Disturbances::loss_with))]
 fn loss_with(noises: &[Noise], now: u64, node: u32, loss: u32) -> u32
     requires { loss ≤ 10000 }
     ensures value { result ≡ loss_with noises.now now node loss }
@@ -229,7 +230,7 @@ fn loss_with(noises: &[Noise], now: u64, node: u32, loss: u32) -> u32
 }
 
 // The loss on a link with noise: of what would come, the noise loses its part.
-#[tactic(auto, unfolding(crate::specs::Disturbing::louder))]
+#[tactic(auto, unfolding(crate::specs::Disturbances::louder))]
 fn louder(loss: u32, noise: u32) -> u32
     requires link { loss ≤ 10000 }
     requires noise { noise ≤ 10000 }

@@ -48,7 +48,7 @@ fn is_came(hearing: Hearing) -> bool
     }
 }
 
-// What a node heard of a frame of which so many segments are missing after it.
+// What a node heard of a frame of which this many segments are missing after it.
 fn hearing_of(missing: u32, withheld: bool) -> Hearing
     ensures { result ≡ hearing_of missing withheld }
 {
@@ -76,7 +76,7 @@ fn heard_some(
     let to = hearer.link.to;
     let chance = disturbances.loss_at(end.at, end.node, to, hearer.link.loss);
     let missing = left - segments_come(loss, chance, left);
-    let withheld = disturbances.withholds(end.at, to);
+    let withheld = disturbances.attacker_keeps(end.at, to);
     HeardAt {
         hearing: hearing_of(missing, withheld),
         left: missing,

@@ -268,7 +268,7 @@ fn place_of(heard: &[Ear], from: u32) -> Option<usize>
 }
 
 // What is heard is disturbed.
-#[tactic(auto, unfolding(crate::specs::Nodes::disturbed_ears), using(crate::proofs::Mapping::mapping))]
+#[tactic(auto, unfolding(crate::specs::Nodes::disturbed_ears), using(crate::proofs::MappedLists::mapping))]
 fn disturb_all(heard: &mut [Ear])
     ensures { heard.new ≡ disturbed_ears heard.old }
 {

@@ -38,7 +38,7 @@ impl Model for Nodes {
 }
 
 impl Nodes {
-    // So many nodes with power that have not joined.
+    // This many nodes with power that have not joined.
     pub fn new(alloc: Global, count: usize) -> Result<Nodes, AllocError>
         ensures { IfOk result (λ nodes. nodes ≡ replicate count new_node) }
     {
@@ -111,7 +111,7 @@ impl Nodes {
         }
     }
 
-    #[tactic(auto, using(crate::proofs::Changing::changes))]
+    #[tactic(auto, using(crate::proofs::ChangedNodes::changes))]
     pub fn set_joined(&mut self, node: u32, joined: bool)
         ensures { self.new ≡ changed node (with_joined joined) self.old }
     {
@@ -121,7 +121,7 @@ impl Nodes {
         self.nodes[node as usize].set_joined(joined);
     }
 
-    #[tactic(auto, using(crate::proofs::Changing::changes))]
+    #[tactic(auto, using(crate::proofs::ChangedNodes::changes))]
     pub fn fail(&mut self, node: u32)
         ensures { self.new ≡ changed node without_power self.old }
     {
@@ -131,7 +131,7 @@ impl Nodes {
         self.nodes[node as usize].fail();
     }
 
-    #[tactic(auto, using(crate::proofs::Changing::changes))]
+    #[tactic(auto, using(crate::proofs::ChangedNodes::changes))]
     pub fn restore(&mut self, node: u32)
         ensures { self.new ≡ changed node with_power self.old }
     {
@@ -141,7 +141,7 @@ impl Nodes {
         self.nodes[node as usize].restore();
     }
 
-    #[tactic(auto, using(crate::proofs::Changing::changes))]
+    #[tactic(auto, using(crate::proofs::ChangedNodes::changes))]
     pub fn set_sending(&mut self, node: u32, sending: bool)
         ensures { self.new ≡ changed node (with_sending sending) self.old }
     {
@@ -151,7 +151,7 @@ impl Nodes {
         self.nodes[node as usize].set_sending(sending);
     }
 
-    #[tactic(auto, using(crate::proofs::Changing::changes))]
+    #[tactic(auto, using(crate::proofs::ChangedNodes::changes))]
     pub fn set_armed(&mut self, node: u32, armed: bool)
         ensures { self.new ≡ changed node (with_armed armed) self.old }
     {
@@ -161,7 +161,7 @@ impl Nodes {
         self.nodes[node as usize].set_armed(armed);
     }
 
-    #[tactic(auto, using(crate::proofs::Changing::changes))]
+    #[tactic(auto, using(crate::proofs::ChangedNodes::changes))]
     pub fn set_first(&mut self, node: u32, waiting: Waiting)
         ensures { self.new ≡ changed node (waiting_first waiting) self.old }
     {
@@ -172,7 +172,7 @@ impl Nodes {
     }
 
     // An attempt of a node is due, and its first frame is held no longer.
-    #[tactic(auto, using(crate::proofs::Changing::changes))]
+    #[tactic(auto, using(crate::proofs::ChangedNodes::changes))]
     pub fn arm_first(&mut self, node: u32, first: Waiting)
         ensures { self.new ≡ changed node (armed_with first) self.old }
     {
@@ -182,7 +182,7 @@ impl Nodes {
         self.nodes[node as usize].arm_first(first);
     }
 
-    #[tactic(auto, using(crate::proofs::Changing::changes))]
+    #[tactic(auto, using(crate::proofs::ChangedNodes::changes))]
     pub fn drop_first(&mut self, node: u32)
         ensures { self.new ≡ changed node first_gone self.old }
     {
@@ -193,7 +193,7 @@ impl Nodes {
     }
 
     // A frame waits at a node behind the others.
-    #[tactic(auto, using(crate::proofs::Changing::changes))]
+    #[tactic(auto, using(crate::proofs::ChangedNodes::changes))]
     pub fn push(&mut self, node: u32, waiting: Waiting) -> Result<(), AllocError>
         ensures { OnOk result (self.new ≡ changed node (with_frame waiting) self.old) }
     {
@@ -204,7 +204,7 @@ impl Nodes {
     }
 
     // A frame of a node begins at a hearer.
-    #[tactic(auto, using(crate::proofs::Changing::changes))]
+    #[tactic(auto, using(crate::proofs::ChangedNodes::changes))]
     fn hear(&mut self, node: u32, from: u32, collisions: bool) -> Result<(), AllocError>
         ensures { OnOk result (self.new ≡ changed node (hearing_more collisions from) self.old) }
     {
@@ -226,7 +226,7 @@ impl Nodes {
     }
 
     // The frame of a node ends at a hearer.
-    #[tactic(auto, using(crate::proofs::Changing::changes))]
+    #[tactic(auto, using(crate::proofs::ChangedNodes::changes))]
     fn hear_no_more(&mut self, node: u32, from: u32)
         ensures { self.new ≡ changed node (hearing_less from) self.old }
     {

@@ -28,7 +28,7 @@ pub struct Settings {
     pub min_be: u8,
     /// The largest exponent of the random wait.
     pub max_be: u8,
-    /// Up to so many microseconds a frame to all waits more, before it is sent.
+    /// Up to this many microseconds a frame to all waits more, before it is sent.
     pub jitter: u32,
     /// How much of the loss of the way back an acknowledgement meets, in per cent.
     pub ack_loss: u16,

@@ -70,7 +70,7 @@ impl Rate {
         }
     }
 
-    // How long a segment of so many octets is on the air.
+    // How long a segment of this many octets is on the air.
     #[tactic(auto, unfolding(crate::specs::Airtime::segment), using(crate::proofs::Quotients::quotients))]
     fn segment(self, octets: u64) -> u64
         requires { octets ≤ 235 }
@@ -83,7 +83,7 @@ impl Rate {
     }
 }
 
-/// How long a frame of so many octets is on the air. Two octets more are its check sum.
+/// How long a frame of this many octets is on the air. Two octets more are its check sum.
 #[tactic(auto, unfolding(crate::specs::Airtime::airtime), using(crate::proofs::Quotients::quotients))]
 pub fn airtime(octets: u16, rate: Rate) -> Span
     ensures span { result ≡ airtime rate octets }

@@ -7,13 +7,13 @@ use Rattle.std.proofs.lemmas.Grind.{common_steps}
 use Rattle.std.proofs.lemmas.List.{length-replicate, length-set}
 use Rattle.std.proofs.lemmas.List.Elements.{All-head, All-tail}
 use Rattle.pcapng.specs.Blocks.{Block, Section, Interface, Packet}
-use Rattle.line_tale.specs.declared.act.Act.{Act}
-use Rattle.line_tale.specs.declared.act.Act.TheVariants as acts
-use Rattle.line_tale.specs.declared.told.TaleEvent.{TaleEvent}
+use Rattle.line_record.specs.declared.act.Act.{Act}
+use Rattle.line_record.specs.declared.act.Act.TheVariants as acts
+use Rattle.line_record.specs.declared.recorded.RecordedEvent.{RecordedEvent}
 use Rattle.line_capture.specs.declared.place.Place.{Place}
-use Rattle.line_tale.specs.declared.told.TaleFlight.{TaleFlight}
-use Rattle.line_tale.specs.Lists.{changed_at, changed_place}
-use Rattle.line_tale.specs.Tales.{numbered}
+use Rattle.line_record.specs.declared.recorded.RecordedFlight.{RecordedFlight}
+use Rattle.line_record.specs.Lists.{changed_at, changed_place}
+use Rattle.line_record.specs.RunRecords.{numbered}
 use Rattle.line_capture.specs.FateValues.{FateValue}
 use Rattle.line_capture.specs.Fates.{arrived, fates_by, fates_from, fates_of, lost, no_fate}
 use Rattle.line_capture.specs.Captures.{Run, flights_packets, flown_packets, heard_packets, packets, packets_from, sent_packet, flown_notes}
@@ -36,7 +36,7 @@ length_changed number f xs =
     length_if (number == 0) xs (changed_place (slice_get xs (number - 1)) (number - 1) f xs)
     (length_changed_place (slice_get xs (number - 1)) (number - 1) f xs)
 
-length_by : (act : Act) (n : ℕ) (e : TaleEvent) (fates : List FateValue) → length (fates_by act n e fates) ≡ length fates
+length_by : (act : Act) (n : ℕ) (e : RecordedEvent) (fates : List FateValue) → length (fates_by act n e fates) ≡ length fates
 length_by (acts.Coordinator eui) n e fates = refl
 length_by (acts.Meter eui) n e fates = refl
 length_by (acts.Depot node) n e fates = refl
@@ -44,7 +44,7 @@ length_by (acts.Near a b) n e fates = refl
 length_by (acts.Counter node) n e fates = refl
 length_by (acts.Number node) n e fates = refl
 length_by (acts.Allow node) n e fates = refl
-length_by (acts.Rand node) n e fates = refl
+length_by (acts.RandomOctets node) n e fates = refl
 length_by (acts.Join node agent) n e fates = refl
 length_by (acts.Leave node) n e fates = refl
 length_by (acts.Send from to octets) n e fates = refl
@@ -66,11 +66,11 @@ length_by (acts.Scan node) n e fates = refl
 length_by (acts.Choose node k) n e fates = refl
 length_by (acts.Path from to) n e fates = refl
 
-length_from : (n : ℕ) (es : List TaleEvent) (fates : List FateValue) → length (fates_from n es fates) ≡ length fates
+length_from : (n : ℕ) (es : List RecordedEvent) (fates : List FateValue) → length (fates_from n es fates) ≡ length fates
 length_from n [] fates = refl
 length_from n (e ∷ es) fates = length_from (n + 1) es (fates_by e.act n e fates) ∙ length_by e.act n e fates
 
-length_fates : (count : ℕ) (es : List TaleEvent) → length (fates_of count es) ≡ count
+length_fates : (count : ℕ) (es : List RecordedEvent) → length (fates_of count es) ≡ count
 length_fates count es = length_from 1 es (replicate count no_fate) ∙ length-replicate count no_fate
 
 -- # Frames
@@ -82,7 +82,7 @@ frames_append (Packet interface time octets options ∷ a) b =
 frames_append (Section options ∷ a) b = frames_append a b
 frames_append (Interface link options ∷ a) b = frames_append a b
 
--- the flights that follow so many
+-- the flights that follow this many
 abbrev rest : Run → ℕ → List Frame
 rest run i = frames_flown (drop i run.flights) (drop i run.octets)
 
@@ -107,12 +107,12 @@ at_number xs i k e =
     ap (λ (b : Bool). if b then None else slice_get xs (k - 1)) (above_zero k (omega (arith, e))) ∙ ap (λ (j : ℕ). slice_get xs j) (omega (arith, e))
 
 -- the frames of a flight, by what is known of it
-abbrev known : Run → Place → TaleEvent → ℕ → Option TaleFlight → Option (List ℕ) → Option FateValue → List Frame
+abbrev known : Run → Place → RecordedEvent → ℕ → Option RecordedFlight → Option (List ℕ) → Option FateValue → List Frame
 known run p e nth flight frame fate =
-    frames_of (where_some flight (λ told. where_some frame (λ octets. where_some fate (λ became.
-    sent_packet false told.from (time_at p e.act + 1 + nth) octets (flown_notes p.number e (p.flight + nth) told.note became) ∷ []))))
+    frames_of (where_some flight (λ recorded. where_some frame (λ octets. where_some fate (λ became.
+    sent_packet false recorded.from (time_at p e.act + 1 + nth) octets (flown_notes p.number e (p.flight + nth) recorded.note became) ∷ []))))
 
-flown_is : (run : Run) (fates : List FateValue) (p : Place) (e : TaleEvent) (nth i : ℕ) → p.flight + nth ≡ suc i
+flown_is : (run : Run) (fates : List FateValue) (p : Place) (e : RecordedEvent) (nth i : ℕ) → p.flight + nth ≡ suc i
     → i < length run.flights → length run.octets ≡ length run.flights → length fates ≡ length run.flights
     → frames_of (flown_packets false run fates p e nth) ++ rest run (suc i) ≡ rest run i
 flown_is run fates p e nth i k h o f =
@@ -125,7 +125,7 @@ flown_is run fates p e nth i k h o f =
     (λ j. known run p e nth (x j) (y j) (z j) ++ rest run (suc i))
     ∙ sym (λ j. frames_flown (a.follow j) (b.follow j))
 
-flights_are : (run : Run) (fates : List FateValue) (p : Place) (e : TaleEvent) (nth left i : ℕ) → p.flight + nth ≡ suc i
+flights_are : (run : Run) (fates : List FateValue) (p : Place) (e : RecordedEvent) (nth left i : ℕ) → p.flight + nth ≡ suc i
     → i + left ≤ length run.flights → length run.octets ≡ length run.flights → length fates ≡ length run.flights
     → frames_of (flights_packets false run fates p e nth left) ++ rest run (i + left) ≡ rest run i
 flights_are run fates p e nth zero i k h o f = ap (λ (j : ℕ). rest run j) (omega arith)
@@ -139,7 +139,7 @@ flights_are run fates p e nth (suc left) i k h o f =
     ∙ flights_are run fates p e (nth + 1) left (suc i) (omega (arith, k)) (omega (arith, h)) o f)
     ∙ flown_is run fates p e nth i k (omega (arith, h)) o f
 
-none_heard : (run : Run) (p : Place) (e : TaleEvent) (act : Act) → IsNoInjection act → heard_packets false run p e act ≡ []
+none_heard : (run : Run) (p : Place) (e : RecordedEvent) (act : Act) → IsNoInjection act → heard_packets false run p e act ≡ []
 none_heard run p e (acts.Coordinator eui) h = refl
 none_heard run p e (acts.Meter eui) h = refl
 none_heard run p e (acts.Depot node) h = refl
@@ -147,7 +147,7 @@ none_heard run p e (acts.Near a b) h = refl
 none_heard run p e (acts.Counter node) h = refl
 none_heard run p e (acts.Number node) h = refl
 none_heard run p e (acts.Allow node) h = refl
-none_heard run p e (acts.Rand node) h = refl
+none_heard run p e (acts.RandomOctets node) h = refl
 none_heard run p e (acts.Join node agent) h = refl
 none_heard run p e (acts.Leave node) h = refl
 none_heard run p e (acts.Send from to octets) h = refl
@@ -169,7 +169,7 @@ none_heard run p e (acts.Scan node) h = refl
 none_heard run p e (acts.Choose node k) h = refl
 none_heard run p e (acts.Path from to) h = refl
 
-events_are : (run : Run) (fates : List FateValue) (p : Place) (es : List TaleEvent) (i : ℕ) → p.flight ≡ suc i
+events_are : (run : Run) (fates : List FateValue) (p : Place) (es : List RecordedEvent) (i : ℕ) → p.flight ≡ suc i
     → i + flights_of es ≤ length run.flights → length run.octets ≡ length run.flights → length fates ≡ length run.flights → All HasNoInjection es
     → frames_of (packets_from false run fates p es) ++ rest run (i + flights_of es) ≡ rest run i
 events_are run fates p [] i k h o f n = ap (λ (j : ℕ). rest run j) (omega arith)
@@ -193,7 +193,7 @@ past (x ∷ xs) zero h = absurd (omega (arith, h))
 past (x ∷ xs) (suc i) h = past xs i (omega (arith, h))
 
 none_left : (run : Run) (i : ℕ) → length run.flights ≤ i → rest run i ≡ []
-none_left run i h = ap (λ (t : List TaleFlight). frames_flown t (drop i run.octets)) (past run.flights i h)
+none_left run i h = ap (λ (t : List RecordedFlight). frames_flown t (drop i run.octets)) (past run.flights i h)
 
 pub flights_captured : FlightsAreCaptured
 flights_captured run w n =

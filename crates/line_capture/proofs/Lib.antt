@@ -1,10 +1,10 @@
-pub mod Adding
+pub mod AddedBlocks
 pub mod Arrivals
 pub mod Flights
 pub mod KeyLines
 pub mod Lists
 pub mod Options
-pub mod Rising
+pub mod PacketTimes
 pub mod Rooms
 pub mod Sentences
 pub mod Steps

@@ -7,7 +7,7 @@ use Rattle.std.proofs.lemmas.Option.{get_or_from_slice_get, none-some, slice_get
 use Rattle.byteorder.specs.Endian.{little_bytes}
 use Rattle.pcapng.specs.Blocks.{FLAGS, option_spelling, packet_length}
 use Rattle.pcapng.proofs.Lengths.{length_of_option}
-use Rattle.line_tale.specs.Tales.{numbered}
+use Rattle.line_record.specs.RunRecords.{numbered}
 use Rattle.line_capture.specs.Captures.{IsFrame, tap_heard, tap_sent}
 
 pub heard_short : (tap : Bool) (cost : ℕ) → length (tap_heard tap cost) ≤ 20

@@ -1,8 +1,8 @@
 -- Places of a walk stay in their ranges.
 use Rattle.std.proofs.Common.{◌≤◌, ◌<◌, ◌^◌, ℕ, ◌+◌, arith}
-use Rattle.line_tale.specs.declared.act.Act.{Act}
-use Rattle.line_tale.specs.declared.act.Act.TheVariants as acts
-use Rattle.line_tale.specs.declared.told.TaleEvent.{TaleEvent}
+use Rattle.line_record.specs.declared.act.Act.{Act}
+use Rattle.line_record.specs.declared.act.Act.TheVariants as acts
+use Rattle.line_record.specs.declared.recorded.RecordedEvent.{RecordedEvent}
 use Rattle.line_capture.specs.declared.place.Place.{Place}
 use Rattle.line_capture.specs.Places.{HasAct, IsAct, IsPlace, clock_after, injected_after, place_after, since_after, start, time_at}
 
@@ -14,7 +14,7 @@ clock_low (acts.Near a b) clock h = omega arith
 clock_low (acts.Counter node) clock h = omega arith
 clock_low (acts.Number node) clock h = omega arith
 clock_low (acts.Allow node) clock h = omega arith
-clock_low (acts.Rand node) clock h = omega arith
+clock_low (acts.RandomOctets node) clock h = omega arith
 clock_low (acts.Join node agent) clock h = omega arith
 clock_low (acts.Leave node) clock h = omega arith
 clock_low (acts.Send from to octets) clock h = omega arith
@@ -44,7 +44,7 @@ since_low (acts.Near a b) since = omega arith
 since_low (acts.Counter node) since = omega arith
 since_low (acts.Number node) since = omega arith
 since_low (acts.Allow node) since = omega arith
-since_low (acts.Rand node) since = omega arith
+since_low (acts.RandomOctets node) since = omega arith
 since_low (acts.Join node agent) since = omega arith
 since_low (acts.Leave node) since = omega arith
 since_low (acts.Send from to octets) since = omega arith
@@ -74,7 +74,7 @@ injected_low (acts.Near a b) injected = omega arith
 injected_low (acts.Counter node) injected = omega arith
 injected_low (acts.Number node) injected = omega arith
 injected_low (acts.Allow node) injected = omega arith
-injected_low (acts.Rand node) injected = omega arith
+injected_low (acts.RandomOctets node) injected = omega arith
 injected_low (acts.Join node agent) injected = omega arith
 injected_low (acts.Leave node) injected = omega arith
 injected_low (acts.Send from to octets) injected = omega arith
@@ -107,7 +107,7 @@ start_is =
       injected = omega arith;
     }
 
-pub after_is : (e : TaleEvent) (p : Place) → IsPlace p → HasAct e → p.number ≤ 50000 → e.flights < 256 → IsPlace (place_after e p)
+pub after_is : (e : RecordedEvent) (p : Place) → IsPlace p → HasAct e → p.number ≤ 50000 → e.flights < 256 → IsPlace (place_after e p)
 after_is e p h a n f =
     let c = clock_low e.act p.clock a in
     let s = since_low e.act p.since in

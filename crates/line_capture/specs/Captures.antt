@@ -10,11 +10,11 @@ use Rattle.pcapng.specs.declared.options.Direction.TheVariants.{Inbound, Outboun
 use Rattle.sentence_parts.specs.declared.part.Part.TheVariants.{Words, Number, Place as At}
 use Rattle.sentence_parts.specs.declared.part.Who.TheVariants.{Device}
 use Rattle.line_script.specs.declared.report.Totals.{Totals}
-use Rattle.line_tale.specs.declared.act.Act.{Act}
-use Rattle.line_tale.specs.declared.act.Act.TheVariants as acts
-use Rattle.line_tale.specs.declared.told.TaleEvent.{TaleEvent}
-use Rattle.line_tale.specs.declared.told.TaleFlight.{TaleFlight}
-use Rattle.line_tale.specs.Tales.{numbered}
+use Rattle.line_record.specs.declared.act.Act.{Act}
+use Rattle.line_record.specs.declared.act.Act.TheVariants as acts
+use Rattle.line_record.specs.declared.recorded.RecordedEvent.{RecordedEvent}
+use Rattle.line_record.specs.declared.recorded.RecordedFlight.{RecordedFlight}
+use Rattle.line_record.specs.RunRecords.{numbered}
 use Rattle.line_capture.specs.declared.place.Place.{Place}
 use Rattle.line_capture.specs.declared.recording.Recording.{Recording}
 use Rattle.line_capture.specs.FateValues.{FateValue}
@@ -27,13 +27,13 @@ use Rattle.line_capture.specs.Comments.{answer_notes, hearing_notes, injection_n
 
 -- the events and the flights of a run, the octets of each flight, and those that no node sent, in the order of the events that brought them
 pub record Run : Type 0 where
-  pub events : List TaleEvent
-  pub flights : List TaleFlight
+  pub events : List RecordedEvent
+  pub flights : List RecordedFlight
   pub octets : List (List ℕ)
   pub injected : List (List ℕ)
 
 abbrev pub run_of : Recording → Run
-run_of r = record { events = r.tale.now.events.items; flights = r.tale.now.flights.items; octets = r.octets.now; injected = r.injected.now }
+run_of r = record { events = r.run_record.now.events.items; flights = r.run_record.now.flights.items; octets = r.octets.now; injected = r.injected.now }
 
 -- octets that fit a line of a script
 abbrev pub IsFrame : List ℕ → Type 0
@@ -121,53 +121,53 @@ where_some None blocks = []
 where_some (Some x) blocks = blocks x
 
 -- what is said of octets that no node sent, of a flight that is heard, and of one that goes out
-abbrev pub injected_notes : ℕ → TaleEvent → ℕ → List BlockOption
+abbrev pub injected_notes : ℕ → RecordedEvent → ℕ → List BlockOption
 injected_notes event e cost = injection_notes event e.line cost ++ answer_notes e.answer e.forged
 
-abbrev pub delivered_notes : ℕ → TaleEvent → ℕ → ℕ → ℕ → List BlockOption
+abbrev pub delivered_notes : ℕ → RecordedEvent → ℕ → ℕ → ℕ → List BlockOption
 delivered_notes event e flight from cost = hearing_notes event e.line flight from cost ++ answer_notes e.answer e.forged
 
-abbrev pub flown_notes : ℕ → TaleEvent → ℕ → ℕ → FateValue → List BlockOption
+abbrev pub flown_notes : ℕ → RecordedEvent → ℕ → ℕ → FateValue → List BlockOption
 flown_notes event e flight send fate = flight_notes event e.line flight send ++ fate_notes fate
 
 -- octets that no node sent are heard
-abbrev pub injected_packets : Bool → Run → Place → TaleEvent → ℕ → ℕ → List Block
+abbrev pub injected_packets : Bool → Run → Place → RecordedEvent → ℕ → ℕ → List Block
 injected_packets tap run p e node cost =
     where_some (numbered run.injected (p.injected + 1)) (λ octets.
     heard_packet tap node (time_at p e.act) octets cost (injected_notes p.number e cost) ∷ [])
 
 -- a flight is heard, where that is asked for
-abbrev pub delivered_packets : Bool → Run → Place → TaleEvent → ℕ → ℕ → ℕ → List Block
+abbrev pub delivered_packets : Bool → Run → Place → RecordedEvent → ℕ → ℕ → ℕ → List Block
 delivered_packets false run p e flight node cost = []
 delivered_packets true run p e flight node cost =
-    where_some (numbered run.flights flight) (λ told. where_some (numbered run.octets flight) (λ octets.
-    heard_packet true node (time_at p e.act) octets cost (delivered_notes p.number e flight told.from cost) ∷ []))
+    where_some (numbered run.flights flight) (λ recorded. where_some (numbered run.octets flight) (λ octets.
+    heard_packet true node (time_at p e.act) octets cost (delivered_notes p.number e flight recorded.from cost) ∷ []))
 
 -- what is heard at an event: octets that no node sent, and flights
-abbrev pub heard_packets : Bool → Run → Place → TaleEvent → Act → List Block
+abbrev pub heard_packets : Bool → Run → Place → RecordedEvent → Act → List Block
 heard_packets tap run p e (acts.Inject node cost octets) = injected_packets tap run p e node cost
 heard_packets tap run p e (acts.Deliver flight node cost) = delivered_packets tap run p e flight node cost
 heard_packets tap run p e _ = []
 
 -- the nth flight of an event, counted from 0
-abbrev pub flown_packets : Bool → Run → List FateValue → Place → TaleEvent → ℕ → List Block
+abbrev pub flown_packets : Bool → Run → List FateValue → Place → RecordedEvent → ℕ → List Block
 flown_packets tap run fates p e nth =
-    where_some (numbered run.flights (p.flight + nth)) (λ told. where_some (numbered run.octets (p.flight + nth)) (λ octets.
+    where_some (numbered run.flights (p.flight + nth)) (λ recorded. where_some (numbered run.octets (p.flight + nth)) (λ octets.
     where_some (numbered fates (p.flight + nth)) (λ fate.
-    sent_packet tap told.from (time_at p e.act + 1 + nth) octets (flown_notes p.number e (p.flight + nth) told.note fate) ∷ [])))
+    sent_packet tap recorded.from (time_at p e.act + 1 + nth) octets (flown_notes p.number e (p.flight + nth) recorded.note fate) ∷ [])))
 
--- so many flights of an event, from the nth on
-abbrev pub flights_packets : Bool → Run → List FateValue → Place → TaleEvent → ℕ → ℕ → List Block
+-- this many flights of an event, from the nth on
+abbrev pub flights_packets : Bool → Run → List FateValue → Place → RecordedEvent → ℕ → ℕ → List Block
 flights_packets tap run fates p e nth zero = []
 flights_packets tap run fates p e nth (suc left) =
     flown_packets tap run fates p e nth ++ flights_packets tap run fates p e (nth + 1) left
 
 -- the packets of an event: what is heard, then what goes out
-abbrev pub event_packets : Bool → Run → List FateValue → Place → TaleEvent → List Block
+abbrev pub event_packets : Bool → Run → List FateValue → Place → RecordedEvent → List Block
 event_packets tap run fates p e = heard_packets tap run p e e.act ++ flights_packets tap run fates p e 0 e.flights
 
 -- those of the events from a place on
-abbrev pub packets_from : Bool → Run → List FateValue → Place → List TaleEvent → List Block
+abbrev pub packets_from : Bool → Run → List FateValue → Place → List RecordedEvent → List Block
 packets_from tap run fates p [] = []
 packets_from tap run fates p (e ∷ es) = event_packets tap run fates p e ++ packets_from tap run fates (place_after e p) es
 

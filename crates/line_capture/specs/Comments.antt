@@ -66,13 +66,13 @@ abbrev pub meant_after : ℕ → Arrival → ℕ
 meant_after meant arrival = if is_meant arrival then meant + 1 else meant
 
 -- that of a node, where it is one of the first 40 such
-abbrev pub told_notes : ℕ → Arrival → List BlockOption
-told_notes meant arrival = if is_meant arrival && nat_lt meant 40 then arrival_notes arrival else []
+abbrev pub heard_notes : ℕ → Arrival → List BlockOption
+heard_notes meant arrival = if is_meant arrival && nat_lt meant 40 then arrival_notes arrival else []
 
 -- of the first 40 such nodes each by itself, where there were some before
 abbrev pub arrivals_notes : ℕ → List Arrival → List BlockOption
 arrivals_notes meant [] = []
-arrivals_notes meant (arrival ∷ arrivals) = told_notes meant arrival ++ arrivals_notes (meant_after meant arrival) arrivals
+arrivals_notes meant (arrival ∷ arrivals) = heard_notes meant arrival ++ arrivals_notes (meant_after meant arrival) arrivals
 
 -- how many such nodes there were
 abbrev pub meant_from : ℕ → List Arrival → ℕ

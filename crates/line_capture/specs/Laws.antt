@@ -1,10 +1,10 @@
 -- Laws of captures.
 use Rattle.std.specs.Prelude.{◌≡◌, ℕ, ◌+◌, ◌<◌, Bool, false, List, [], ◌∷◌, All, length, ⊤}
 use Rattle.pcapng.specs.Blocks.{Block, Packet}
-use Rattle.line_tale.specs.declared.act.Act.{Act}
-use Rattle.line_tale.specs.declared.act.Act.TheVariants as acts
-use Rattle.line_tale.specs.declared.told.TaleEvent.{TaleEvent}
-use Rattle.line_tale.specs.declared.told.TaleFlight.{TaleFlight}
+use Rattle.line_record.specs.declared.act.Act.{Act}
+use Rattle.line_record.specs.declared.act.Act.TheVariants as acts
+use Rattle.line_record.specs.declared.recorded.RecordedEvent.{RecordedEvent}
+use Rattle.line_record.specs.declared.recorded.RecordedFlight.{RecordedFlight}
 use Rattle.line_capture.specs.Captures.{Run, packets}
 use Rattle.line_capture.specs.Places.{AreEvents}
 
@@ -28,13 +28,13 @@ times_of (_ ∷ bs) = times_of bs
 -- # Flights
 
 -- each flight at its sender
-abbrev pub frames_flown : List TaleFlight → List (List ℕ) → List Frame
+abbrev pub frames_flown : List RecordedFlight → List (List ℕ) → List Frame
 frames_flown [] octets = []
-frames_flown (told ∷ flights) [] = []
-frames_flown (told ∷ flights) (frame ∷ octets) = (record { interface = told.from; octets = frame }) ∷ frames_flown flights octets
+frames_flown (recorded ∷ flights) [] = []
+frames_flown (recorded ∷ flights) (frame ∷ octets) = (record { interface = recorded.from; octets = frame }) ∷ frames_flown flights octets
 
 -- how many flights events have together
-abbrev pub flights_of : List TaleEvent → ℕ
+abbrev pub flights_of : List RecordedEvent → ℕ
 flights_of [] = 0
 flights_of (e ∷ es) = e.flights + flights_of es
 
@@ -42,7 +42,7 @@ abbrev pub IsNoInjection : Act → Type 0
 IsNoInjection (acts.Inject node cost octets) = ⊥
 IsNoInjection _ = ⊤
 
-abbrev pub HasNoInjection : TaleEvent → Type 0
+abbrev pub HasNoInjection : RecordedEvent → Type 0
 HasNoInjection e = IsNoInjection e.act
 
 -- a run whose flights are those that its events sent, and of each of which the octets are known
@@ -68,7 +68,7 @@ Rise [] = ⊤
 Rise (time ∷ times) = RiseFrom time times
 
 -- an event has fewer than 256 flights
-abbrev pub HasCount : TaleEvent → Type 0
+abbrev pub HasCount : RecordedEvent → Type 0
 HasCount e = e.flights < 256
 
 -- the times of the packets rise

@@ -1,8 +1,8 @@
 -- Where a walk over the events of a run is, and the time of what happens there.
 use Rattle.std.specs.Prelude.{ℕ, ◌+◌, ◌*◌, ◌<◌, ◌≤◌, List, length, All, ⊤}
-use Rattle.line_tale.specs.declared.act.Act.{Act}
-use Rattle.line_tale.specs.declared.act.Act.TheVariants as acts
-use Rattle.line_tale.specs.declared.told.TaleEvent.{TaleEvent}
+use Rattle.line_record.specs.declared.act.Act.{Act}
+use Rattle.line_record.specs.declared.act.Act.TheVariants as acts
+use Rattle.line_record.specs.declared.recorded.RecordedEvent.{RecordedEvent}
 use Rattle.line_capture.specs.declared.place.Place.{Place}
 
 -- # Walks
@@ -26,7 +26,7 @@ injected_after _ injected = injected
 abbrev pub start : Place
 start = record { number = 1; clock = 0; since = 0; flight = 1; injected = 0 }
 
-abbrev pub place_after : TaleEvent → Place → Place
+abbrev pub place_after : RecordedEvent → Place → Place
 place_after e p =
     record {
       number = p.number + 1;
@@ -47,11 +47,11 @@ abbrev pub IsAct : Act → Type 0
 IsAct (acts.Tick seconds) = (1 ≤ seconds) × (seconds ≤ 86400)
 IsAct _ = ⊤
 
-abbrev pub HasAct : TaleEvent → Type 0
+abbrev pub HasAct : RecordedEvent → Type 0
 HasAct e = IsAct e.act
 
 -- what a run has: at most 50,000 events, with ticks of a day at most
-pub record AreEvents (events : List TaleEvent) : Type 0 where
+pub record AreEvents (events : List RecordedEvent) : Type 0 where
   pub count : length events ≤ 50000
   pub acts : All HasAct events
 

@@ -6,7 +6,7 @@ use Rattle.mac_frames.specs.declared.head.MacHead.{MacHead}
 use Rattle.mac_frames.specs.declared.head.MacHead.TheVariants.{Sealed, Up, Down}
 use Rattle.mac_frames.specs.declared.fault.FrameFaultKind.{FrameFaultKind}
 use Rattle.mac_frames.specs.Faults.{frame_fault}
-use Rattle.mac_frames.specs.Reading.{head_in}
+use Rattle.mac_frames.specs.Reader.{head_in}
 use Rattle.sentence_parts.specs.declared.part.Part.TheVariants.{Words, Short}
 use Rattle.sentence_parts.specs.Parts.{parts_text}
 
@@ -65,6 +65,6 @@ seen_text address [] = []
 seen_text address (true ∷ seen) = address_text address ++ seen_text (address + 1) seen
 seen_text address (false ∷ seen) = seen_text (address + 1) seen
 
--- those of so many addresses
+-- those of this many addresses
 abbrev pub addresses_text : ℕ → List (List ℕ) → List (List ℕ) → List ℕ
 addresses_text count octets injected = seen_text 0 (marked_by injected (marked_by octets (replicate count false)))

@@ -31,7 +31,7 @@ pub record IsSmall (o : BlockOption) : Type 0 where
   pub code : o.code < 2 ^ 16
   pub size : length o.octets ≤ 2000
 
--- so many options, none of which says more
+-- this many options, none of which says more
 pub record AreFew (most : ℕ) (os : List BlockOption) : Type 0 where
   pub count : length os ≤ most
   pub each : All IsSmall os

@@ -9,8 +9,8 @@ ghost use Rattle.line_capture.specs.Sentences.{AreFew, IsSmall};
 use crate::fate::{Arrival, Fate};
 use crate::notes::Notes;
 use line_events::Answer;
+use line_record::RecordedEvent;
 use line_script::{answer_word, spaced_verdict};
-use line_tale::TaleEvent;
 use sentence_parts::{number, words};
 use std::alloc::AllocError;
 
@@ -163,13 +163,13 @@ fn note_arrival(notes: &mut Notes, arrival: &Arrival) -> Result<(), AllocError>
     ])
 }
 
-// What a node answered that took a flight for its own, where so many before it did. Answers how many these are with it.
-fn note_told(notes: &mut Notes, meant: usize, arrival: &Arrival) -> Result<usize, AllocError>
+// What a node answered that took a flight for its own, where this many before it did. Answers how many these are with it.
+fn note_heard(notes: &mut Notes, meant: usize, arrival: &Arrival) -> Result<usize, AllocError>
     requires { meant < usize.MAX }
     ensures options { OnOk result (notes.new.options
-        ≡ notes.old.options ++ options_spelling (spec_comments.told_notes meant arrival.now)) }
+        ≡ notes.old.options ++ options_spelling (spec_comments.heard_notes meant arrival.now)) }
     ensures count { IfOk result (λ count. count ≡ spec_comments.meant_after meant arrival.now) }
-    ensures few { OnOk result (AreFew 1 (spec_comments.told_notes meant arrival.now)) }
+    ensures few { OnOk result (AreFew 1 (spec_comments.heard_notes meant arrival.now)) }
 {
     if !is_meant(arrival) {
         return Ok(meant);
@@ -191,7 +191,7 @@ fn note_arrivals(notes: &mut Notes, arrivals: &[Arrival]) -> Result<usize, Alloc
 {
     let mut meant = 0;
     for arrival in arrivals {
-        meant = note_told(notes, meant, arrival)?;
+        meant = note_heard(notes, meant, arrival)?;
     }
     Ok(meant)
 }
@@ -275,32 +275,32 @@ fn note_fate(notes: &mut Notes, fate: &Fate) -> Result<(), AllocError>
 pub fn note_injected(
     notes: &mut Notes,
     event: usize,
-    told: &TaleEvent,
+    recorded: &RecordedEvent,
     cost: u8,
 ) -> Result<(), AllocError>
-    ensures options { OnOk result (notes.new.options ≡ options_spelling (captures.injected_notes event told.now cost)) }
-    ensures few { OnOk result (AreFew 60 (captures.injected_notes event told.now cost)) }
+    ensures options { OnOk result (notes.new.options ≡ options_spelling (captures.injected_notes event recorded.now cost)) }
+    ensures few { OnOk result (AreFew 60 (captures.injected_notes event recorded.now cost)) }
 {
     notes.options.clear();
-    note_injection(notes, event, told.line, cost)?;
-    note_answer(notes, told.answer, told.forged)
+    note_injection(notes, event, recorded.line, cost)?;
+    note_answer(notes, recorded.answer, recorded.forged)
 }
 
 /// What is said of a flight of a node, heard over a link of this cost at the event of a number. It replaces what was noted before.
 pub fn note_delivered(
     notes: &mut Notes,
     event: usize,
-    told: &TaleEvent,
+    recorded: &RecordedEvent,
     flight: u32,
     from: u16,
     cost: u8,
 ) -> Result<(), AllocError>
-    ensures options { OnOk result (notes.new.options ≡ options_spelling (captures.delivered_notes event told.now flight from cost)) }
-    ensures few { OnOk result (AreFew 60 (captures.delivered_notes event told.now flight from cost)) }
+    ensures options { OnOk result (notes.new.options ≡ options_spelling (captures.delivered_notes event recorded.now flight from cost)) }
+    ensures few { OnOk result (AreFew 60 (captures.delivered_notes event recorded.now flight from cost)) }
 {
     notes.options.clear();
-    note_hearing(notes, event, told.line, flight, from, cost)?;
-    note_answer(notes, told.answer, told.forged)
+    note_hearing(notes, event, recorded.line, flight, from, cost)?;
+    note_answer(notes, recorded.answer, recorded.forged)
 }
 
 /// What is said of a flight that goes out at the event of a number, with a datagram of a send where that is not 0. It replaces what was noted
@@ -308,15 +308,15 @@ pub fn note_delivered(
 pub fn note_flown(
     notes: &mut Notes,
     event: usize,
-    told: &TaleEvent,
+    recorded: &RecordedEvent,
     flight: usize,
     send: u32,
     fate: &Fate,
 ) -> Result<(), AllocError>
-    ensures options { OnOk result (notes.new.options ≡ options_spelling (captures.flown_notes event told.now flight send fate.now)) }
-    ensures few { OnOk result (AreFew 60 (captures.flown_notes event told.now flight send fate.now)) }
+    ensures options { OnOk result (notes.new.options ≡ options_spelling (captures.flown_notes event recorded.now flight send fate.now)) }
+    ensures few { OnOk result (AreFew 60 (captures.flown_notes event recorded.now flight send fate.now)) }
 {
     notes.options.clear();
-    note_flight(notes, event, told.line, flight, send)?;
+    note_flight(notes, event, recorded.line, flight, send)?;
     note_fate(notes, fate)
 }

@@ -3,7 +3,7 @@ ghost use Rattle.std.specs.Prelude.{◌≡◌, ◌+◌, IfOk, OnOk, replicate};
 ghost use Rattle.line_capture.specs.Fates as spec_fates;
 
 use line_events::Answer;
-use line_tale::{Act, TaleEvent};
+use line_record::{Act, RecordedEvent};
 use std::alloc::{AllocError, Global};
 use std::marker::Model;
 
@@ -61,14 +61,19 @@ impl Fate {
     }
 
     // It comes to a node at an event.
-    fn arrive(&mut self, event: usize, node: u32, told: &TaleEvent) -> Result<(), AllocError>
-        ensures { OnOk result (self.new ≡ spec_fates.arrived event node told.now self.old) }
+    fn arrive(
+        &mut self,
+        event: usize,
+        node: u32,
+        recorded: &RecordedEvent,
+    ) -> Result<(), AllocError>
+        ensures { OnOk result (self.new ≡ spec_fates.arrived event node recorded.now self.old) }
     {
         self.arrivals.push(Arrival {
             event,
             node,
-            answer: told.answer,
-            forged: told.forged,
+            answer: recorded.answer,
+            forged: recorded.forged,
         })?;
         Ok(())
     }
@@ -87,15 +92,15 @@ fn arrive(
     flight: u32,
     event: usize,
     node: u32,
-    told: &TaleEvent,
+    recorded: &RecordedEvent,
 ) -> Result<(), AllocError>
-    ensures { OnOk result (fates.new ≡ spec_fates.arrived_in flight event node told.now fates.old) }
+    ensures { OnOk result (fates.new ≡ spec_fates.arrived_in flight event node recorded.now fates.old) }
 {
     let number = flight as usize;
     if number == 0 || number > fates.len() {
         return Ok(());
     }
-    fates[number - 1].arrive(event, node, told)
+    fates[number - 1].arrive(event, node, recorded)
 }
 
 // The flight of a number is lost, where there is such a flight.
@@ -110,11 +115,11 @@ fn lose(fates: &mut [Fate], flight: u32, event: usize)
 }
 
 // What an event does to the flights.
-fn go_on(fates: &mut [Fate], event: usize, told: &TaleEvent) -> Result<(), AllocError>
-    ensures { OnOk result (fates.new ≡ spec_fates.fates_by told.now.act event told.now fates.old) }
+fn go_on(fates: &mut [Fate], event: usize, recorded: &RecordedEvent) -> Result<(), AllocError>
+    ensures { OnOk result (fates.new ≡ spec_fates.fates_by recorded.now.act event recorded.now fates.old) }
 {
-    match &told.act {
-        Act::Deliver { flight, node, .. } => arrive(fates, *flight, event, *node, told),
+    match &recorded.act {
+        Act::Deliver { flight, node, .. } => arrive(fates, *flight, event, *node, recorded),
         Act::Lose { flight } => {
             lose(fates, *flight, event);
             Ok(())
@@ -123,16 +128,16 @@ fn go_on(fates: &mut [Fate], event: usize, told: &TaleEvent) -> Result<(), Alloc
     }
 }
 
-fn go_through(fates: &mut [Fate], events: &[TaleEvent]) -> Result<(), AllocError>
+fn go_through(fates: &mut [Fate], events: &[RecordedEvent]) -> Result<(), AllocError>
     ensures { OnOk result (fates.new ≡ spec_fates.fates_from 1 events.now fates.old) }
 {
-    for (i, told) in events.iter().enumerate() {
-        go_on(fates, i + 1, told)?;
+    for (i, recorded) in events.iter().enumerate() {
+        go_on(fates, i + 1, recorded)?;
     }
     Ok(())
 }
 
-// So many flights of which nothing became yet.
+// This many flights of which nothing became yet.
 fn no_fates(alloc: Global, count: usize) -> Result<Vec<Fate>, AllocError>
     ensures { IfOk result (λ fates. fates.items ≡ replicate count spec_fates.no_fate) }
 {
@@ -143,10 +148,14 @@ fn no_fates(alloc: Global, count: usize) -> Result<Vec<Fate>, AllocError>
     Ok(fates)
 }
 
-/// What became of so many flights, by their numbers from 1.
+/// What became of this many flights, by their numbers from 1.
 ///
 /// It fails only where memory runs out.
-pub fn fates_of(alloc: Global, count: usize, events: &[TaleEvent]) -> Result<Vec<Fate>, AllocError>
+pub fn fates_of(
+    alloc: Global,
+    count: usize,
+    events: &[RecordedEvent],
+) -> Result<Vec<Fate>, AllocError>
     ensures { IfOk result (λ fates. fates.items ≡ spec_fates.fates_of count events.now) }
 {
     let mut fates = no_fates(alloc, count)?;

@@ -1,7 +1,7 @@
 //! The file of a capture.
 ghost use Rattle.std.specs.Prelude.{◌≡◌, ◌<◌, ◌≤◌, ◌++◌, ◌∷◌, [], IfOk, OnOk, length, Some};
 ghost use Rattle.pcapng.specs.Blocks.{capture, options_spelling};
-ghost use Rattle.pcapng.specs.Reading.{blocks_in};
+ghost use Rattle.pcapng.specs.Reader.{blocks_in};
 ghost use Rattle.line_capture.specs.Captures as captures;
 ghost use Rattle.line_capture.specs.Captures.{Adds, IsRun, run_of};
 ghost use Rattle.line_capture.specs.Fates.{fates_of};
@@ -164,7 +164,7 @@ fn push_blocks(
 ) -> Result<(), AllocError>
     requires run { IsRun (run_of run.now) }
     requires remark { length remark.now ≤ 2000 }
-    requires fates { fates.now ≡ fates_of (length run.now.tale.now.flights.items) run.now.tale.now.events.items }
+    requires fates { fates.now ≡ fates_of (length run.now.run_record.now.flights.items) run.now.run_record.now.events.items }
     ensures { OnOk result (Adds packets.old.out.items packets.new.out.items
         (captures.blocks packets.old.tap run.now.totals remark.now run.now.euis.now (run_of run.now))) }
 {
@@ -187,7 +187,11 @@ fn written(
     ensures { IfOk result (λ file. Adds [] file.items
         (captures.blocks heard run.now.totals remark.now run.now.euis.now (run_of run.now))) }
 {
-    let fates = fates_of(alloc, run.tale.flights.len(), run.tale.events.as_slice())?;
+    let fates = fates_of(
+        alloc,
+        run.run_record.flights.len(),
+        run.run_record.events.as_slice(),
+    )?;
     let mut packets = Packets::new(alloc, heard);
     push_blocks(&mut packets, run, fates.as_slice(), remark)?;
     Ok(packets.out)

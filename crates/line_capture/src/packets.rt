@@ -2,7 +2,7 @@
 ghost use Rattle.std.specs.Prelude.{◌≡◌, ◌+◌, ◌<◌, ◌++◌, ◌^◌, [], true, OnOk, length};
 ghost use Rattle.std.specs.Option.{option_copied};
 ghost use Rattle.pcapng.specs.Blocks.{PACKET, block_spelling, ended, options_spelling, packet_body, packet_length};
-ghost use Rattle.line_tale.specs.Tales.{numbered};
+ghost use Rattle.line_record.specs.RunRecords.{numbered};
 ghost use Rattle.line_capture.specs.Captures as captures;
 ghost use Rattle.line_capture.specs.Captures.{Adds, IsRun, run_of};
 ghost use Rattle.line_capture.specs.Places.{AreEvents, HasAct, IsPlace, start};
@@ -12,7 +12,7 @@ use crate::fate::Fate;
 use crate::notes::Notes;
 use crate::place::Place;
 use crate::recording::Recording;
-use line_tale::{Act, TaleEvent};
+use line_record::{Act, RecordedEvent};
 use pcapng::{Direction, Packet, append_packet};
 use plc_base::OctetRef;
 use std::alloc::{AllocError, Global};
@@ -171,22 +171,22 @@ impl Packets {
         &mut self,
         run: &Recording<'_>,
         place: &Place,
-        told: &TaleEvent,
+        recorded: &RecordedEvent,
         node: u32,
         cost: u8,
     ) -> Result<(), AllocError>
         requires run { IsRun (run_of run.now) }
         requires place { IsPlace place.now }
-        requires act { HasAct told.now }
+        requires act { HasAct recorded.now }
         ensures adds { OnOk result (Adds self.old.out.items self.new.out.items
-            (captures.injected_packets self.old.tap (run_of run.now) place.now told.now node cost)) }
+            (captures.injected_packets self.old.tap (run_of run.now) place.now recorded.now node cost)) }
         ensures tap { self.new.tap ≡ self.old.tap }
     {
         let Some(octets) = numbered(run.injected, place.injected + 1) else {
             return Ok(());
         };
-        note_injected(&mut self.notes, place.number, told, cost)?;
-        self.push_inbound(node, place.time(&told.act), octets, cost)?;
+        note_injected(&mut self.notes, place.number, recorded, cost)?;
+        self.push_inbound(node, place.time(&recorded.act), octets, cost)?;
         Ok(())
     }
 
@@ -195,28 +195,28 @@ impl Packets {
         &mut self,
         run: &Recording<'_>,
         place: &Place,
-        told: &TaleEvent,
+        recorded: &RecordedEvent,
         flight: u32,
         node: u32,
         cost: u8,
     ) -> Result<(), AllocError>
         requires run { IsRun (run_of run.now) }
         requires place { IsPlace place.now }
-        requires act { HasAct told.now }
+        requires act { HasAct recorded.now }
         requires tap { self.old.tap ≡ true }
         ensures adds { OnOk result (Adds self.old.out.items self.new.out.items
-            (captures.delivered_packets self.old.tap (run_of run.now) place.now told.now flight node cost)) }
+            (captures.delivered_packets self.old.tap (run_of run.now) place.now recorded.now flight node cost)) }
         ensures tap { self.new.tap ≡ self.old.tap }
     {
-        let Some(flown) = run.tale.flight(flight as usize) else {
+        let Some(flown) = run.run_record.flight(flight as usize) else {
             return Ok(());
         };
         let Some(octets) = numbered(run.octets, flight as usize) else {
             return Ok(());
         };
         let (from, number) = (flown.from, place.number);
-        note_delivered(&mut self.notes, number, told, flight, from, cost)?;
-        self.push_inbound(node, place.time(&told.act), octets, cost)?;
+        note_delivered(&mut self.notes, number, recorded, flight, from, cost)?;
+        self.push_inbound(node, place.time(&recorded.act), octets, cost)?;
         Ok(())
     }
 
@@ -225,22 +225,22 @@ impl Packets {
         &mut self,
         run: &Recording<'_>,
         place: &Place,
-        told: &TaleEvent,
+        recorded: &RecordedEvent,
         flight: u32,
         node: u32,
         cost: u8,
     ) -> Result<(), AllocError>
         requires run { IsRun (run_of run.now) }
         requires place { IsPlace place.now }
-        requires act { HasAct told.now }
+        requires act { HasAct recorded.now }
         ensures adds { OnOk result (Adds self.old.out.items self.new.out.items
-            (captures.delivered_packets self.old.tap (run_of run.now) place.now told.now flight node cost)) }
+            (captures.delivered_packets self.old.tap (run_of run.now) place.now recorded.now flight node cost)) }
         ensures tap { self.new.tap ≡ self.old.tap }
     {
         if !self.tap {
             return Ok(());
         }
-        self.push_arrival(run, place, told, flight, node, cost)
+        self.push_arrival(run, place, recorded, flight, node, cost)
     }
 
     // What is heard at an event.
@@ -248,19 +248,21 @@ impl Packets {
         &mut self,
         run: &Recording<'_>,
         place: &Place,
-        told: &TaleEvent,
+        recorded: &RecordedEvent,
     ) -> Result<(), AllocError>
         requires run { IsRun (run_of run.now) }
         requires place { IsPlace place.now }
-        requires act { HasAct told.now }
+        requires act { HasAct recorded.now }
         ensures adds { OnOk result (Adds self.old.out.items self.new.out.items
-            (captures.heard_packets self.old.tap (run_of run.now) place.now told.now told.now.act)) }
+            (captures.heard_packets self.old.tap (run_of run.now) place.now recorded.now recorded.now.act)) }
         ensures tap { self.new.tap ≡ self.old.tap }
     {
-        match &told.act {
-            Act::Inject { node, cost, .. } => self.push_injected(run, place, told, *node, *cost),
+        match &recorded.act {
+            Act::Inject { node, cost, .. } => self.push_injected(
+                run, place, recorded, *node, *cost,
+            ),
             Act::Deliver { flight, node, cost } => {
-                self.push_delivered(run, place, told, *flight, *node, *cost)
+                self.push_delivered(run, place, recorded, *flight, *node, *cost)
             }
             _ => Ok(()),
         }
@@ -272,18 +274,18 @@ impl Packets {
         run: &Recording<'_>,
         fates: &[Fate],
         place: &Place,
-        told: &TaleEvent,
+        recorded: &RecordedEvent,
         nth: u8,
     ) -> Result<(), AllocError>
         requires run { IsRun (run_of run.now) }
         requires place { IsPlace place.now }
-        requires act { HasAct told.now }
+        requires act { HasAct recorded.now }
         ensures adds { OnOk result (Adds self.old.out.items self.new.out.items
-            (captures.flown_packets self.old.tap (run_of run.now) fates.now place.now told.now nth)) }
+            (captures.flown_packets self.old.tap (run_of run.now) fates.now place.now recorded.now nth)) }
         ensures tap { self.new.tap ≡ self.old.tap }
     {
         let number = place.flight + usize::from(nth);
-        let Some(flown) = run.tale.flight(number) else {
+        let Some(flown) = run.run_record.flight(number) else {
             return Ok(());
         };
         let Some(octets) = numbered(run.octets, number) else {
@@ -295,12 +297,12 @@ impl Packets {
         note_flown(
             &mut self.notes,
             place.number,
-            told,
+            recorded,
             number,
             flown.note,
             fate,
         )?;
-        let time = place.time(&told.act) + 1 + u64::from(nth);
+        let time = place.time(&recorded.act) + 1 + u64::from(nth);
         self.push_outbound(u32::from(flown.from), time, octets)?;
         Ok(())
     }
@@ -311,17 +313,17 @@ impl Packets {
         run: &Recording<'_>,
         fates: &[Fate],
         place: &Place,
-        told: &TaleEvent,
+        recorded: &RecordedEvent,
     ) -> Result<(), AllocError>
         requires run { IsRun (run_of run.now) }
         requires place { IsPlace place.now }
-        requires act { HasAct told.now }
+        requires act { HasAct recorded.now }
         ensures adds { OnOk result (Adds self.old.out.items self.new.out.items
-            (captures.flights_packets self.old.tap (run_of run.now) fates.now place.now told.now 0 told.now.flights)) }
+            (captures.flights_packets self.old.tap (run_of run.now) fates.now place.now recorded.now 0 recorded.now.flights)) }
         ensures tap { self.new.tap ≡ self.old.tap }
     {
-        for nth in 0..told.flights {
-            self.push_flown(run, fates, place, told, nth)?;
+        for nth in 0..recorded.flights {
+            self.push_flown(run, fates, place, recorded, nth)?;
         }
         Ok(())
     }
@@ -332,17 +334,17 @@ impl Packets {
         run: &Recording<'_>,
         fates: &[Fate],
         place: &Place,
-        told: &TaleEvent,
+        recorded: &RecordedEvent,
     ) -> Result<(), AllocError>
         requires run { IsRun (run_of run.now) }
         requires place { IsPlace place.now }
-        requires act { HasAct told.now }
+        requires act { HasAct recorded.now }
         ensures adds { OnOk result (Adds self.old.out.items self.new.out.items
-            (captures.event_packets self.old.tap (run_of run.now) fates.now place.now told.now)) }
+            (captures.event_packets self.old.tap (run_of run.now) fates.now place.now recorded.now)) }
         ensures tap { self.new.tap ≡ self.old.tap }
     {
-        self.push_heard(run, place, told)?;
-        self.push_flights(run, fates, place, told)?;
+        self.push_heard(run, place, recorded)?;
+        self.push_flights(run, fates, place, recorded)?;
         Ok(())
     }
 
@@ -351,7 +353,7 @@ impl Packets {
         &mut self,
         run: &Recording<'_>,
         fates: &[Fate],
-        events: &[TaleEvent],
+        events: &[RecordedEvent],
     ) -> Result<(), AllocError>
         requires run { IsRun (run_of run.now) }
         requires events { AreEvents events.now }
@@ -360,9 +362,9 @@ impl Packets {
         ensures tap { self.new.tap ≡ self.old.tap }
     {
         let mut place = Place::start();
-        for told in events {
-            self.push_event(run, fates, &place, told)?;
-            place = place.after(told);
+        for recorded in events {
+            self.push_event(run, fates, &place, recorded)?;
+            place = place.after(recorded);
         }
         Ok(())
     }
@@ -371,9 +373,9 @@ impl Packets {
     pub fn push_events(&mut self, run: &Recording<'_>, fates: &[Fate]) -> Result<(), AllocError>
         requires { IsRun (run_of run.now) }
         ensures adds { OnOk result (Adds self.old.out.items self.new.out.items
-            (captures.packets_from self.old.tap (run_of run.now) fates.now start run.now.tale.now.events.items)) }
+            (captures.packets_from self.old.tap (run_of run.now) fates.now start run.now.run_record.now.events.items)) }
         ensures tap { self.new.tap ≡ self.old.tap }
     {
-        self.push_each(run, fates, run.tale.events.as_slice())
+        self.push_each(run, fates, run.run_record.events.as_slice())
     }
 }

@@ -2,7 +2,7 @@
 ghost use Rattle.std.specs.Prelude.{◌≡◌, ◌+◌, ◌<◌, ◌≤◌, ◌^◌};
 ghost use Rattle.line_capture.specs.Places as places;
 
-use line_tale::{Act, TaleEvent};
+use line_record::{Act, RecordedEvent};
 
 // A second.
 const NANOSECONDS: u64 = 1_000_000_000;
@@ -83,18 +83,18 @@ impl Place {
     }
 
     /// After an event here.
-    pub fn after(&self, told: &TaleEvent) -> Place
+    pub fn after(&self, recorded: &RecordedEvent) -> Place
         requires place { places.IsPlace self.now }
-        requires act { places.IsAct told.now.act }
-        ensures after { result ≡ places.place_after told.now self.now }
+        requires act { places.IsAct recorded.now.act }
+        ensures after { result ≡ places.place_after recorded.now self.now }
         ensures place { self.now.number ≤ 50000 → places.IsPlace result }
     {
         Place {
             number: self.number + 1,
-            clock: clock_after(&told.act, self.clock),
-            since: since_after(&told.act, self.since),
-            flight: self.flight + usize::from(told.flights),
-            injected: injected_after(&told.act, self.injected),
+            clock: clock_after(&recorded.act, self.clock),
+            since: since_after(&recorded.act, self.since),
+            flight: self.flight + usize::from(recorded.flights),
+            injected: injected_after(&recorded.act, self.injected),
         }
     }
 }

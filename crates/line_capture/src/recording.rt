@@ -1,6 +1,6 @@
 //! What is recorded of a run.
+use line_record::RunRecord;
 use line_script::Totals;
-use line_tale::Tale;
 use plc_base::{Eui, OctetRef};
 
 /// A run, as far as a capture shows it.
@@ -11,7 +11,7 @@ pub struct Recording<'a> {
     /// The EUI-64 of each node.
     pub euis: &'a [Eui],
     /// The events and the flights.
-    pub tale: &'a Tale,
+    pub run_record: &'a RunRecord,
     /// The octets of each flight, by its number from 1.
     pub octets: &'a [OctetRef<'a>],
     /// The octets that no node sent, in the order of the events that brought them.

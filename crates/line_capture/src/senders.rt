@@ -9,7 +9,7 @@ use plc_base::OctetRef;
 use sentence_parts::{Part, push_parts, words};
 use std::alloc::{AllocError, Global};
 
-/// There are so many short addresses, of 16 bits each.
+/// There are this many short addresses, of 16 bits each.
 pub const ADDRESSES: usize = 65_536;
 
 fn head_sender(head: &MacHead) -> Option<u16>
@@ -32,7 +32,7 @@ pub fn frame_sender(octets: &[u8]) -> Option<u16>
     }
 }
 
-// A function of the count: a table of so many is not computed in a proof.
+// A function of the count: a table of this many is not computed in a proof.
 fn no_addresses(alloc: Global, count: usize) -> Result<Vec<bool>, AllocError>
     ensures { IfOk result (λ seen. seen.items ≡ replicate count false) }
 {
@@ -91,7 +91,7 @@ fn push_addresses(text: &mut String, alloc: Global, seen: &[bool]) -> Result<(),
     Ok(())
 }
 
-// The lines of so many addresses.
+// The lines of this many addresses.
 fn text_of(alloc: Global, count: usize, run: &Recording<'_>) -> Result<String, AllocError>
     requires { count ≤ 65536 }
     ensures { IfOk result (λ text. string_bytes text ≡ profiles.addresses_text count run.now.octets.now run.now.injected.now) }

@@ -2,7 +2,7 @@
 ghost use Rattle.std.specs.Prelude.{◌≡◌};
 ghost use Rattle.line_events.specs.Answers.{is_ok};
 
-use plc_base::{Eui, Key, KeyIndex, LinkCost, OctetRef, Rand};
+use plc_base::{Eui, Key, KeyIndex, LinkCost, OctetRef, RandomOctets};
 use thiserror::Error;
 
 /// The most events of a run.
@@ -48,9 +48,9 @@ pub enum Event<'a> {
         node: u32,
     },
     /// Gives a node a random value.
-    Rand {
+    RandomOctets {
         node: u32,
-        value: Rand,
+        value: RandomOctets,
     },
     /// A meter begins to join by an agent.
     Join {
@@ -88,7 +88,7 @@ pub enum Event<'a> {
         node: u32,
         next: u32,
     },
-    /// Moves the clock on by so many seconds.
+    /// Moves the clock on by this many seconds.
     Tick {
         seconds: u32,
     },

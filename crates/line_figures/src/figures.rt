@@ -39,7 +39,7 @@ impl Figures {
         self.restarts = self.restarts.saturating_add(1);
     }
 
-    /// A frame was on the air for so many microseconds.
+    /// A frame was on the air for this many microseconds.
     pub fn was_on_air(&mut self, micros: u64) {
         self.on_air = self.on_air.saturating_add(micros);
     }

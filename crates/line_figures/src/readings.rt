@@ -66,7 +66,7 @@ impl Readings {
         self.due(node, round, now)
     }
 
-    /// A reading came to the coordinator, over so many hops.
+    /// A reading came to the coordinator, over this many hops.
     pub fn came(&mut self, node: u32, round: u32, now: u64, hops: u32) -> Result<(), AllocError> {
         let mut progress = self.take(node, round, now);
         if !progress.came {

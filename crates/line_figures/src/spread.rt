@@ -10,7 +10,7 @@ pub struct Spread {
     pub last: Option<u64>,
 }
 
-// The number that stands so many hundredths of the way up.
+// The number that stands this many hundredths of the way up.
 fn at(numbers: &[u64], hundredths: usize) -> Option<u64> {
     let place = numbers.len().saturating_mul(hundredths) / 100;
     numbers

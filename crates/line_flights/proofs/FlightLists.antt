@@ -6,7 +6,7 @@ use Rattle.std.proofs.Math.Dec.{eqb-suc-zero}
 use Rattle.line_flights.specs.Flights.{Flight}
 use Rattle.line_flights.specs.declared.flights.Kept.{Kept}
 use Rattle.line_flights.specs.Flown.{Flown, flight_in, not_lost}
-use Rattle.line_flights.specs.Keeping.{flight_of, flights_of}
+use Rattle.line_flights.specs.KeptFlights.{flight_of, flights_of}
 
 pub count_of : (strings : List (List ℕ)) (items : List Kept) → length strings ≡ length items → length (flights_of strings items) ≡ length items
 count_of [] items e = e

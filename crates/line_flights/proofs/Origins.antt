@@ -13,7 +13,7 @@ use Rattle.line_flights.specs.Flights.{Flight, has_octets, note_of, is_forged_fr
 use Rattle.line_flights.specs.declared.flights.Kept.{Kept}
 use Rattle.line_flights.specs.declared.flights.Origin.{Origin}
 use Rattle.line_flights.specs.Flown.{is_under}
-use Rattle.line_flights.specs.Keeping.{flights_of}
+use Rattle.line_flights.specs.KeptFlights.{flights_of}
 use Rattle.line_flights.proofs.FlightLists.{octets_at, count_of}
 
 abbrev pub origin_of : List Flight → List ℕ → Key → Origin

@@ -19,9 +19,9 @@ use Rattle.plc_base.specs.declared.tags.PairTag.{PairTag}
 use Rattle.plc_base.specs.declared.tags.PairTag.TheVariants.{MacP, MacS, Channel}
 use Rattle.plc_base.specs.Tags.{IsTag, tag_octets}
 use Rattle.plc_base.proofs.NumbersOfOctets.{bytes_high_first-big_from}
-use Rattle.node_rules.specs.Accepting.{same_eui}
+use Rattle.node_rules.specs.Acceptance.{same_eui}
 use Rattle.line_flights.specs.Flights.{same_rand, same_tag, is_forged_tag}
-use Rattle.line_flights.specs.Spellings.{tag_of, channel_by, field_of, behind_field, IsSpelling, AreSpelled}
+use Rattle.line_flights.specs.SpelledTags.{tag_of, channel_by, field_of, behind_field, IsSpelling, AreSpelled}
 
 front : (n : ℕ) (xs ys : List ℕ) → length xs ≡ n → take n (xs ++ ys) ≡ xs
 front n xs ys e = ap (λ k. take k (xs ++ ys)) (sym e) ∙ take-append_seam xs ys

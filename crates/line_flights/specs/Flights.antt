@@ -4,12 +4,12 @@ use Rattle.std.specs.List.{list_any}
 use Rattle.std.specs.Option.{option_map_or}
 use Rattle.std.specs.Str.{bytes_eq}
 use Rattle.plc_base.specs.declared.key.Key.{Key}
-use Rattle.plc_base.specs.declared.key.Rand.{Rand}
+use Rattle.plc_base.specs.declared.key.RandomOctets.{RandomOctets}
 use Rattle.plc_base.specs.declared.out_frame.OutFrame.{OutFrame}
 use Rattle.plc_base.specs.declared.tags.PairTag.{PairTag}
 use Rattle.plc_base.specs.declared.tags.PairTag.TheVariants as tags
 use Rattle.group_keys.specs.KeyBook.{same_key}
-use Rattle.node_rules.specs.Accepting.{same_eui}
+use Rattle.node_rules.specs.Acceptance.{same_eui}
 
 -- A frame that was sent. It may come any number of times, until it is lost; its octets stay.
 pub record Flight : Type 0 where
@@ -32,7 +32,7 @@ flight_by from f = record { from = from; octets = f.octets; key = f.key; note = 
 abbrev pub has_octets : List ℕ → Key → Flight → Bool
 has_octets octets key f = bytes_eq f.octets octets && option_map_or (same_key key) f.key false
 
--- the note of the first flight with these octets under this key, and 0 where there is none; lost or not
+-- the note of the first flight with these octets under this key, and 0 if there is none; lost or not
 unfoldable pub note_of : List Flight → List ℕ → Key → ℕ
 note_of [] octets key = 0
 note_of (f ∷ rest) octets key = if has_octets octets key f then f.note else note_of rest octets key
@@ -42,7 +42,7 @@ abbrev pub is_forged_frame : List Flight → List ℕ → Key → Bool
 is_forged_frame flights octets key = not (list_any (has_octets octets key) flights)
 
 -- whether two random values are the same
-abbrev pub same_rand : Rand → Rand → Bool
+abbrev pub same_rand : RandomOctets → RandomOctets → Bool
 same_rand a b = bytes_eq a.0 b.0
 
 -- whether two pair tags were computed over the same

@@ -1,4 +1,4 @@
 pub mod Flights
 pub mod Flown
-pub mod Keeping
-pub mod Spellings
+pub mod KeptFlights
+pub mod SpelledTags

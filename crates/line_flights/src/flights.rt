@@ -68,7 +68,7 @@ pub struct Flights {
 impl Model for Flights {
     ghost use Rattle.std.specs.Prelude.{vec_capacity};
     ghost use Rattle.line_flights.specs.Flown.{Flown};
-    ghost use Rattle.line_flights.specs.Keeping.{flights_of, AreKept};
+    ghost use Rattle.line_flights.specs.KeptFlights.{flights_of, AreKept};
 
     ghost Value = { Flown };
 
@@ -117,7 +117,7 @@ impl Flights {
         self.log.len()
     }
 
-    /// Reserves the memory for so many more frames of so many octets together, where less is reserved, and else takes
+    /// Reserves the memory for this many more frames of this many octets together, where less is reserved, and else takes
     /// none. It fails only where memory runs out, and nothing changes then.
     pub fn reserve(&mut self, frames: usize, octets: usize) -> Result<(), AllocError>
         ensures ok { OnOk result (self.new ≡ record self.old {
@@ -185,7 +185,7 @@ impl Flights {
         }
     }
 
-    /// The flight of a number, lost or not. None where there is none.
+    /// The flight of a number, lost or not. None if there is none.
     pub fn get(&self, number: u32) -> Option<FlightRef<'_>>
         ensures { result ≡ flight_in self.now.flights number }
     {
@@ -206,7 +206,7 @@ impl Flights {
         })
     }
 
-    /// The octets of the flight of a number, lost or not. None where there is none.
+    /// The octets of the flight of a number, lost or not. None if there is none.
     pub fn octets(&self, number: u32) -> Option<&[u8]>
         ensures { option_copied result ≡ option_map (λ f. f.octets) (flight_in self.now.flights number) }
     {
@@ -214,7 +214,7 @@ impl Flights {
         Some(flight.octets.octets())
     }
 
-    /// The number of the node that sent the flight of a number. None where there is none.
+    /// The number of the node that sent the flight of a number. None if there is none.
     pub fn sender(&self, number: u32) -> Option<u16>
         ensures { result ≡ option_map (λ f. f.from) (flight_in self.now.flights number) }
     {
@@ -222,7 +222,7 @@ impl Flights {
         Some(flight.from)
     }
 
-    /// The octets of the flight of a number, as it comes to a node. None where there is none, or where it was lost.
+    /// The octets of the flight of a number, as it comes to a node. None if there is none, or where it was lost.
     pub fn flying(&self, number: u32) -> Option<&[u8]>
         ensures { option_copied result ≡ option_map (λ f. f.octets) (not_lost (flight_in self.now.flights number)) }
     {

@@ -8,7 +8,7 @@ use plc_base::PairTag;
 use std::alloc::{AllocError, Global};
 use std::marker::Model;
 
-/// A spelling has at most so many octets.
+/// A spelling has at most this many octets.
 const MOST_OCTETS: usize = 158;
 
 /// The pair tags that were made, in their order. They are kept by their spellings.
@@ -22,7 +22,7 @@ pub struct MadeTags {
 impl Model for MadeTags {
     ghost use Rattle.std.specs.Prelude.{map};
     ghost use Rattle.line_flights.specs.Flown.{Made};
-    ghost use Rattle.line_flights.specs.Spellings.{tag_of, AreSpelled};
+    ghost use Rattle.line_flights.specs.SpelledTags.{tag_of, AreSpelled};
 
     ghost Value = { Made };
 
@@ -48,7 +48,7 @@ impl MadeTags {
         self.log.len()
     }
 
-    /// Reserves the memory for so many more tags, where less is reserved, and else takes none. It fails only where
+    /// Reserves the memory for this many more tags, where less is reserved, and else takes none. It fails only where
     /// memory runs out, and nothing changes then.
     pub fn reserve(&mut self, tags: usize) -> Result<(), AllocError>
         // A number has 32 bits.

@@ -22,7 +22,7 @@ use Rattle.node_rules.specs.MemoryDrafts.{in_memory, with_station, on_station, s
 use Rattle.node_rules.specs.Coordinators.{with_book_entry}
 use Rattle.node_rules.proofs.Sizes.{pending}
 use Rattle.line_laws.specs.Stores.{IsHeld, IsReadableEntry, IsBookKept, IsNamed, IsKept, HasEui, IsPair}
-use Rattle.line_laws.proofs.Keeping.{Leads, leads_beside, leads_one, leads_append, leads_when, leads_map}
+use Rattle.line_laws.proofs.KeptMemory.{Leads, leads_beside, leads_one, leads_append, leads_when, leads_map}
 use Rattle.line_laws.proofs.Beside.{With, low_when}
 use Rattle.line_laws.proofs.StoreWords.{counter_leads}
 use Rattle.line_laws.proofs.StoreRanks.{EntryFits}

@@ -20,7 +20,7 @@ use Rattle.node_rules.specs.Memory.{StationMemory}
 use Rattle.node_rules.specs.Plans.{Plan, carry_out}
 use Rattle.node_rules.specs.Drafts.{Draft, with_rank, with_own_number, with_next_tag, with_ring, with_routing_by, goes, body_goes, waits, leave}
 use Rattle.node_rules.specs.Laws.{all_put, IsWhole, IsCutOff}
-use Rattle.node_rules.proofs.Writing.{clean}
+use Rattle.node_rules.proofs.FailedWrites.{clean}
 use Rattle.line_laws.specs.Stores.{IsReadable}
 use Rattle.line_laws.proofs.Made.{Given, RingWord, RingChange, Made, Starts, Ranks, Numbers, Tags, Rings, Idles, Loses, Goes, Sends, Waits, Leaves}
 pub use Rattle.line_laws.specs.Keyed.{RingIn}

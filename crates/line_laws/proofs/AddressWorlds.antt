@@ -13,7 +13,7 @@ use Rattle.group_keys.specs.KeyRing as ring
 use Rattle.node_rules.specs.Memory.{Memory, Node, address_of, node_address}
 use Rattle.line_rules.specs.Worlds.{World, Issued, node_at}
 use Rattle.line_laws.specs.Stores.{IsKept}
-use Rattle.line_laws.proofs.Keeping.{Left}
+use Rattle.line_laws.proofs.KeptMemory.{Left}
 use Rattle.line_laws.proofs.Nodes.{NodeOk}
 use Rattle.line_laws.proofs.Worlds.{WorldOk, at_place}
 use Rattle.line_laws.proofs.AddressPuts.{RingIn}

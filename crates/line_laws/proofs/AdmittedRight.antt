@@ -24,7 +24,7 @@ use Rattle.node_rules.specs.Memory.{Memory, Role, Coordinator, Meter, Node}
 use Rattle.node_rules.specs.MemoryDrafts.{in_memory, with_memory_by}
 use Rattle.node_rules.specs.NodeSteps.{NodeStep, acts, answering, of_station}
 use Rattle.node_rules.specs.Plans.{Plan, resting}
-use Rattle.node_rules.specs.StoreReading.{memory_of}
+use Rattle.node_rules.specs.RestartStates.{memory_of}
 use Rattle.reach_rules.specs.declared.heard.CommandHeard.{CommandHeard}
 use Rattle.reach_rules.specs.declared.heard.CommandHeard.TheVariants as heard_of
 use Rattle.reach_rules.specs.declared.heard.DiscoveryHeard.{DiscoveryHeard}
@@ -39,9 +39,9 @@ use Rattle.reach_rules.specs.declared.refusal.ScanRefusal.{ScanRefusal}
 use Rattle.reach_rules.specs.declared.refusal.ScanRefusal.TheVariants as scan_faults
 use Rattle.reach_rules.specs.Beacons.{begin_scan, choose_agent, hear_discovery}
 use Rattle.reach_rules.specs.Broadcasts.{broadcast}
-use Rattle.reach_rules.specs.PathAsking.{ask_path}
+use Rattle.reach_rules.specs.PathRequests.{ask_path}
 use Rattle.reach_rules.specs.ReachingNodes.{Beside}
-use Rattle.reach_rules.specs.Receiving.{hear_command}
+use Rattle.reach_rules.specs.FurtherReceptions.{hear_command}
 use Rattle.line_events.specs.declared.event.Answer.{Answer}
 use Rattle.line_events.specs.declared.event.Event.{Event}
 use Rattle.line_events.specs.declared.event.Event.TheVariants as events

@@ -9,7 +9,7 @@ use Rattle.std.proofs.lemmas.Option.{same_Some}
 use Rattle.store_tables.proofs.SlotTables.{slice_get-set, slice_get-set_other, slice_get-map, slice_get-push_other}
 use Rattle.plc_base.specs.declared.address.Eui.{Eui}
 use Rattle.plc_base.specs.declared.key.Key.{Key}
-use Rattle.plc_base.specs.declared.key.Rand.{Rand}
+use Rattle.plc_base.specs.declared.key.RandomOctets.{RandomOctets}
 use Rattle.plc_base.specs.Grant.{Granted}
 use Rattle.group_keys.specs.KeyBook as book
 use Rattle.line_events.specs.declared.event.Event.{Event}
@@ -32,7 +32,7 @@ use Rattle.node_rules.specs.Ciphers.{Ciphers}
 use Rattle.node_rules.specs.Frames.{arrived}
 use Rattle.node_rules.specs.Memory.{StationMemory, Memory, Role, Coordinator, Meter, Node, node_address}
 use Rattle.node_rules.specs.Plans.{Plan, resting}
-use Rattle.node_rules.specs.Accepting.{accept}
+use Rattle.node_rules.specs.Acceptance.{accept}
 use Rattle.node_rules.specs.Calls as calls
 use Rattle.node_rules.specs.Meters as meters
 use Rattle.node_rules.specs.Coordinators as coordinator_rules
@@ -60,12 +60,12 @@ use Rattle.node_rules.specs.declared.heard.CoordinatorHeard.TheVariants as coord
 use Rattle.node_rules.specs.declared.refusal.Dropped.{Dropped}
 use Rattle.line_rules.specs.Answers.{station_reception, SentGrant, CompletedJoining}
 use Rattle.line_rules.specs.Worlds.{Issued}
-use Rattle.node_rules.specs.Hearing.{dropped}
+use Rattle.node_rules.specs.HearingRules.{dropped}
 use Rattle.line_laws.specs.Stores.{IsKept}
 use Rattle.line_laws.specs.Sizes.{IsMemorySized}
 use Rattle.line_laws.specs.Owed.{AreOctets, KeepsRanges}
 use Rattle.joining_messages.proofs.JoinRanges.{read_fits}
-use Rattle.line_laws.proofs.Keeping.{Left}
+use Rattle.line_laws.proofs.KeptMemory.{Left}
 use Rattle.line_laws.proofs.Answered.{acts_answered}
 use Rattle.line_laws.proofs.StoreMarks.{accept_is}
 use Rattle.line_laws.proofs.Nodes.{NodeOk, ring_readable, pair_octets}
@@ -79,7 +79,7 @@ use Rattle.line_laws.proofs.IssueCoordinator.{done_in}
 use Rattle.line_laws.proofs.IssueNodes.{all_made, installs_rest}
 use Rattle.line_laws.proofs.IssueCalls.{send_quietly, near_quietly, broke_quietly, random_quietly, accept_quietly}
 use Rattle.line_laws.proofs.IssueWorlds.{Keyed}
-use Rattle.node_rules.specs.Accepting.{same_eui}
+use Rattle.node_rules.specs.Acceptance.{same_eui}
 use Rattle.line_rules.specs.Worlds.{Pairing}
 use Rattle.line_rules.specs.Runs.{one_of}
 use Rattle.line_rules.specs.Answers.{CompletedJoining}
@@ -89,7 +89,7 @@ use Rattle.line_laws.proofs.IssueNodes.{installs_rest}
 use Rattle.node_rules.specs.Laws.{IsWhole, IsCutOff}
 use Rattle.node_rules.specs.Plans.{carry_out}
 use Rattle.node_rules.specs.NodeSteps.{left_by}
-use Rattle.node_rules.proofs.Writing.{clean}
+use Rattle.node_rules.proofs.FailedWrites.{clean}
 use Rattle.eap_psk.specs.declared.server.Agreed.{Agreed}
 use Rattle.plc_base.specs.declared.tags.PairTag.TheVariants as tags
 use Rattle.line_laws.proofs.Worlds.{within as place_within}
@@ -288,7 +288,7 @@ module _ (ciphers : Ciphers) (fits : KeepsRanges ciphers) (w : World) (ok : Worl
   plain_acts v cv number x there halted plan none =
       after_nothing ciphers v number x (acts x halted plan) there (acts_eui x halted plan) taken cv (acts_nothing x halted plan none)
 
-  rand_agrees : (number : ℕ) (value : Rand) → Good (rand ciphers w number value)
+  rand_agrees : (number : ℕ) (value : RandomOctets) → Good (rand ciphers w number value)
   unfolding rand
   rand_agrees number value = once _ (at_node number _ (λ x there. quiet _ refl refl
       (plain_after (running_world w) c number x there random_word (Err randoms.Halted) _
@@ -714,7 +714,7 @@ module _ (ciphers : Ciphers) (fits : KeepsRanges ciphers) (w : World) (ok : Worl
   step_agrees (events.Counter node value) e = preset_agrees node _ (λ m. (none_station m value).0)
   step_agrees (events.Number node value) e = preset_agrees node _ (λ m. (none_station m value).1)
   step_agrees (events.Allow node) e = allow_agrees node
-  step_agrees (events.Rand node value) e = rand_agrees node value
+  step_agrees (events.RandomOctets node value) e = rand_agrees node value
   step_agrees (events.Join node agent) e = join_agrees node agent
   step_agrees (events.Leave node) e = leave_agrees node
   step_agrees (events.Send from to datagram) e = send_agrees from to datagram

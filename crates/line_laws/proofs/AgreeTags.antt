@@ -3,7 +3,7 @@ use Rattle.std.proofs.Common.{◌≡◌, ℕ, true, List, Some, sym, ap, ◌∙�
 use Rattle.std.specs.Prelude.{slice_get}
 use Rattle.std.proofs.lemmas.Bool.{and_parts, eqb-true}
 use Rattle.std.proofs.lemmas.Slice.Eq.{bytes_eq-Decides}
-use Rattle.plc_base.specs.declared.key.Rand.{Rand}
+use Rattle.plc_base.specs.declared.key.RandomOctets.{RandomOctets}
 use Rattle.plc_base.specs.declared.tags.PairTag.{PairTag}
 use Rattle.plc_base.specs.declared.tags.PairTag.TheVariants as tags
 use Rattle.group_keys.specs.KeyBook as book
@@ -18,10 +18,10 @@ use Rattle.line_laws.proofs.IssueNodes.{AllMade}
 use Rattle.line_laws.proofs.IssueCoordinator.{IsDoneBy}
 pub use Rattle.line_laws.specs.Agreed.{IsTakenBy, TagTaken}
 
-rand_of : List ℕ → Rand
+rand_of : List ℕ → RandomOctets
 rand_of octets = record { 0 = octets }
 
-pub rand_same : (a b : Rand) → a.0 ≡ b.0 → a ≡ b
+pub rand_same : (a b : RandomOctets) → a.0 ≡ b.0 → a ≡ b
 unfolding rand_of
 rand_same a b e = ap rand_of e
 
@@ -36,7 +36,7 @@ pub record WasTakenBy (nodes : List Node) (taken : List Pairing) (c : CompletedJ
 heads_same : (i j : ℕ) (s t : List ℕ) → fourth_head i s ≡ fourth_head j t → s ≡ t
 heads_same i j s t e = cc (e)
 
-agreed_of : Rand → Rand → Agreed
+agreed_of : RandomOctets → RandomOctets → Agreed
 agreed_of s p = record { rand_s = s; rand_p = p }
 
 agreed_same : (a b : Agreed) → a.rand_s ≡ b.rand_s → a.rand_p ≡ b.rand_p → a ≡ b

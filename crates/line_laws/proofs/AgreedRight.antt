@@ -12,7 +12,7 @@ use Rattle.eap_psk.specs.Sessions.{agreed_by}
 use Rattle.eap_psk.specs.Tags.{granting_tag, mac_s_tag, success_tag}
 use Rattle.eap_psk.specs.declared.peer.Peer.{Peer}
 use Rattle.eap_psk.specs.declared.server.Agreed.{Agreed}
-use Rattle.joining_messages.specs.Reading.{join_in}
+use Rattle.joining_messages.specs.Reader.{join_in}
 use Rattle.joining_messages.specs.declared.message.JoinBody.{JoinBody}
 use Rattle.joining_messages.specs.declared.message.JoinBody.TheVariants as body
 use Rattle.joining_messages.specs.declared.message.JoinMessage.{JoinMessage}
@@ -20,8 +20,8 @@ use Rattle.node_rules.specs.Calls as calls
 use Rattle.node_rules.specs.Ciphers.{Ciphers}
 use Rattle.node_rules.specs.Coordinators as coordinator_rules
 use Rattle.node_rules.specs.Drafts.{Draft, alone, checked, empty_draft, with_ring}
-use Rattle.node_rules.specs.Hearing as station_rules
-use Rattle.node_rules.specs.Hearing.{dropped}
+use Rattle.node_rules.specs.HearingRules as station_rules
+use Rattle.node_rules.specs.HearingRules.{dropped}
 use Rattle.node_rules.specs.Laws.{IsCutOff, IsWhole}
 use Rattle.node_rules.specs.Memory.{StationMemory, Memory, MeterSession, SessionWay, ByAgent, ByCommand, Role, Coordinator, Meter, Node, address_of}
 use Rattle.node_rules.specs.MemoryDrafts.{Unread, goes_down, goes_up, in_memory, oldest, on_station, packet_fault, unread, with_memory_by, with_pair_tags}
@@ -47,7 +47,7 @@ use Rattle.node_rules.specs.declared.refusal.Dropped.TheVariants as drops
 use Rattle.node_rules.specs.declared.refusal.Dropped.TheVariants.{BadUnit, NoSession, NoRandom}
 use Rattle.node_rules.specs.declared.refusal.SendRefusal.TheVariants as sends
 use Rattle.node_rules.proofs.MemoryDraftShapes.{whole}
-use Rattle.node_rules.proofs.Writing.{clean}
+use Rattle.node_rules.proofs.FailedWrites.{clean}
 use Rattle.line_events.specs.declared.event.Event.{Event}
 use Rattle.line_rules.specs.Answers.{CompletedJoining, Reception, coordinator_reception, meter_reception, sent_word, station_reception}
 use Rattle.line_rules.specs.Forgery.{accepting}

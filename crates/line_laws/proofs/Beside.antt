@@ -4,7 +4,7 @@ use Rattle.std.specs.FinMap.{insert}
 use Rattle.plc_base.specs.Keeper.{Records, Write}
 use Rattle.node_rules.specs.Memory.{StationMemory}
 use Rattle.line_laws.specs.Stores.{IsStationKept}
-use Rattle.line_laws.proofs.Keeping.{Leads, leads_beside, leads_one, leads_when}
+use Rattle.line_laws.proofs.KeptMemory.{Leads, leads_beside, leads_one, leads_when}
 
 -- it lasts while slots below those of the book are written
 abbrev pub Lasts : (Records → Type 0) → Type 0

@@ -13,7 +13,7 @@ use Rattle.mesh_header.specs.declared.unit.Unit.{Unit as MeshUnit}
 use Rattle.mesh_header.specs.declared.unit.Unit.TheVariants as units
 use Rattle.broadcast_log.specs.declared.broadcast.Broadcast.{Broadcast}
 use Rattle.broadcast_log.specs.Grammar.{IsBroadcast, Spells, spelling}
-use Rattle.broadcast_log.specs.Reading.{broadcast_in}
+use Rattle.broadcast_log.specs.Reader.{broadcast_in}
 use Rattle.neighbour_checks.specs.Acks.{ack_in, ack_spelling}
 use Rattle.neighbour_checks.specs.Neighbours.{is_awaited}
 use Rattle.path_requests.specs.declared.message.PathMessage.{PathMessage}
@@ -22,8 +22,8 @@ use Rattle.path_requests.specs.declared.step.PathStep.{PathStep}
 use Rattle.path_requests.specs.declared.step.PathStep.TheVariants.{Forward, Answer as Answers, Done}
 use Rattle.path_requests.specs.declared.step.PathRefusal.{PathRefusal}
 use Rattle.path_requests.specs.Messages.{path_spelling}
-use Rattle.path_requests.specs.Reading.{path_in}
-use Rattle.path_requests.specs.Taking.{taken}
+use Rattle.path_requests.specs.Reader.{path_in}
+use Rattle.path_requests.specs.PathSteps.{taken}
 use Rattle.node_rules.specs.Accepted.{Accepted}
 use Rattle.node_rules.specs.declared.heard.Reply.{Reply}
 use Rattle.node_rules.specs.declared.refusal.Dropped.TheVariants as drops
@@ -53,15 +53,15 @@ use Rattle.reach_rules.specs.declared.refusal.ChooseRefusal.TheVariants as choic
 use Rattle.reach_rules.specs.declared.refusal.ReachDropped.{ReachDropped}
 use Rattle.reach_rules.specs.declared.refusal.ReachDropped.TheVariants as reach_drops
 use Rattle.reach_rules.specs.Beacons.{ChosenAgent, Discovering, begin_scan, choose_agent, choosing_ends, hear_discovery, joins_by}
-use Rattle.pan_discovery.specs.Reading.{discovery_in}
+use Rattle.pan_discovery.specs.Reader.{discovery_in}
 use Rattle.pan_discovery.specs.declared.message.Discovery.{Discovery}
 use Rattle.pan_discovery.specs.Agents.{kth_of}
 use Rattle.reach_rules.specs.Broadcasts.{admits_broadcast, broadcast, broadcast_ends, broadcast_fault, broadcast_from, datagram_fault, goes_further}
 use Rattle.reach_rules.specs.Broadcasts.{hear_broadcast_in, hop_less, own_broadcast, with_broadcast_mark, with_broadcast_number}
 use Rattle.reach_rules.specs.CheckedReplies.{acknowledges, hear_acknowledgement_in, message_of}
-use Rattle.reach_rules.specs.PathAsking.{ask_ends, ask_path, asks_by as asks_over, asks_from, follows_path, hear_path_in, next_toward, path_word}
+use Rattle.reach_rules.specs.PathRequests.{ask_ends, ask_path, asks_by as asks_over, asks_from, follows_path, hear_path_in, next_toward, path_word}
 use Rattle.reach_rules.specs.ReachingNodes.{Beside, Reaching, drop_it, in_reach, reach_ends, adds_local}
-use Rattle.reach_rules.specs.Receiving.{NeighbourCommand, command_of, hear_command, hear_command_at}
+use Rattle.reach_rules.specs.FurtherReceptions.{NeighbourCommand, command_of, hear_command, hear_command_at}
 use Rattle.line_events.specs.declared.event.Answer.{Answer}
 use Rattle.line_events.specs.declared.event.Answer.TheVariants as answers
 use Rattle.line_events.specs.declared.event.Event.{Event}
@@ -88,10 +88,10 @@ use Rattle.line_laws.proofs.FurtherStepKinds.{line_step_is}
 use Rattle.line_laws.proofs.LetterAccepts.{to_of}
 use Rattle.line_laws.proofs.OctetRuns.{SpeaksIn, WorldSpeaks, start_speaks}
 use Rattle.line_laws.proofs.OldUnits.{IsOldFrame, IsOldUnit, joins_old}
-use Rattle.line_laws.proofs.Readings.{network_ranges}
+use Rattle.line_laws.proofs.StorableGrants.{network_ranges}
 use Rattle.line_laws.proofs.ReachSteps.{Asks, Bcasts, Checked, Chooses, Commands, Discovers, Fails, Hears, IsAccepted, IsReachStep, Known, Opens, Restarts}
 use Rattle.line_laws.proofs.ReachSteps.{Rests, Scans, Ticks, Unbelieves, after_accepting, heard_node, reach_step_is}
-use Rattle.line_laws.proofs.Running.{start_ok}
+use Rattle.line_laws.proofs.EveryRun.{start_ok}
 use Rattle.line_laws.proofs.SendsSay.{Both, acts_by, none_sealed, one_sealed, refused_by, sealed_by_plan}
 use Rattle.line_laws.proofs.StepKinds as old
 use Rattle.line_laws.proofs.Worlds.{at_place}

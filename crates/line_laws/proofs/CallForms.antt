@@ -5,14 +5,14 @@ use Rattle.std.specs.Option.{option_map}
 use Rattle.std.proofs.lemmas.Bool.{ltb-false, eqb-false, or_parts}
 use Rattle.plc_base.specs.Faults.{◌then◌, ◌when◌}
 use Rattle.plc_base.specs.declared.key.Key.{Key}
-use Rattle.plc_base.specs.declared.key.Rand.{Rand}
+use Rattle.plc_base.specs.declared.key.RandomOctets.{RandomOctets}
 use Rattle.plc_base.specs.Grant.{Granted}
 use Rattle.plc_base.specs.declared.address.Eui.{Eui}
 use Rattle.routing_set.specs.RoutingSet as routing
 use Rattle.node_rules.specs.declared.refusal.SendRefusal.TheVariants as sends
 use Rattle.node_rules.specs.declared.refusal.PresetFault.TheVariants as presets
 use Rattle.node_rules.specs.Memory.{StationMemory, Memory, Datagram, address_of, next_hop}
-use Rattle.node_rules.specs.Accepting.{is_own}
+use Rattle.node_rules.specs.Acceptance.{is_own}
 use Rattle.node_rules.specs.Drafts.{Draft, Lack, alone, empty_draft, with_rank, with_ring, with_next_tag, lack, refused}
 use Rattle.node_rules.specs.Calls.{sending_ends, lacking, tag_taken, send_fault, send_from, send, ringing_ends, install, presetting_ends, near_rank}
 use Rattle.node_rules.specs.Calls.{preset_fault, preset_near}
@@ -159,14 +159,14 @@ module _ (W : RingWord → Type 0) (g : Given) (l : StationMemory) where
       (rw none.0 (omega arith)))
 
 module _ (W : RingWord → Type 0) (L : Granted → Type 0) (P : Eui → Key → Type 0) (E : Eui → Type 0) (g : Given) (m : Memory) where
-  gives : Rand → Draft Memory
+  gives : RandomOctets → Draft Memory
   gives value = with_memory_by (λ n. record n { randoms = n.randoms ++ value ∷ [] }) (empty_draft m)
 
-  gives_made : (value : Rand) → nat_lt 7 (length m.randoms) ≡ false → MadeIn W L P E g m (gives value)
+  gives_made : (value : RandomOctets) → nat_lt 7 (length m.randoms) ≡ false → MadeIn W L P E g m (gives value)
   unfolding empty_draft gives
   gives_made value room = Remembers (λ n. record n { randoms = n.randoms ++ value ∷ [] }) (empty_draft m) Begins (Gives value room)
 
-  gives_none : (value : Rand) → ((gives value).units ≡ []) × IsDone m.station (gives value)
+  gives_none : (value : RandomOctets) → ((gives value).units ≡ []) × IsDone m.station (gives value)
   unfolding empty_draft with_memory_by gives
   gives_none value = (
     refl,
@@ -174,7 +174,7 @@ module _ (W : RingWord → Type 0) (L : Granted → Type 0) (P : Eui → Key →
         (remembered_fits m.station (λ n. record n { randoms = n.randoms ++ value ∷ [] }) (empty_draft m) (begun_fits m.station 1 m)),
   )
 
-  pub random_is : (value : Rand) → Planned in_memory given_ends m Nothing (MadeBy W L P E g m AnyAnswer) (give_random m value)
+  pub random_is : (value : RandomOctets) → Planned in_memory given_ends m Nothing (MadeBy W L P E g m AnyAnswer) (give_random m value)
   unfolding gives
   random_is value = choose_planned (λ full. Refuses _)
       (λ room. let none = gives_none value in sealing_planned (gives value) tt (gives_made value room, none.1, tt) (rw none.0 (omega arith)))

@@ -34,13 +34,13 @@ use Rattle.reach_rules.specs.declared.refusal.ScanRefusal.TheVariants as scan_fa
 use Rattle.reach_rules.specs.declared.refusal.AskRefusal.TheVariants as ask_faults
 use Rattle.reach_rules.specs.declared.refusal.BroadcastRefusal.TheVariants as broadcast_faults
 use Rattle.reach_rules.specs.declared.refusal.ChooseRefusal.TheVariants as choices
-use Rattle.node_rules.specs.StoreReading.{memory_of}
-use Rattle.reach_rules.specs.PathAsking.{ask_path}
+use Rattle.node_rules.specs.RestartStates.{memory_of}
+use Rattle.reach_rules.specs.PathRequests.{ask_path}
 use Rattle.reach_rules.specs.Broadcasts.{broadcast}
 use Rattle.reach_rules.specs.Beacons.{begin_scan, choose_agent, hear_discovery, is_discovery}
 use Rattle.reach_rules.specs.CheckedReplies.{is_unbelieved, message_of}
 use Rattle.reach_rules.specs.ReachingNodes.{Beside}
-use Rattle.reach_rules.specs.Receiving.{NeighbourCommand, command_of, hear_command}
+use Rattle.reach_rules.specs.FurtherReceptions.{NeighbourCommand, command_of, hear_command}
 use Rattle.line_rules.specs.Answers.{Reception, command_word, discovery_word, drop_word, scan_word}
 use Rattle.line_events.specs.declared.event.Answer.{Answer}
 use Rattle.line_events.specs.declared.event.Answer.TheVariants as answers

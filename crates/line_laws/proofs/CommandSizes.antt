@@ -17,7 +17,7 @@ use Rattle.node_rules.specs.Accepted.{Accepted}
 use Rattle.node_rules.specs.Ciphers.{network}
 use Rattle.node_rules.specs.Coordinators as coordinators
 use Rattle.node_rules.specs.Coordinators.{is_of, session_of}
-use Rattle.node_rules.specs.Joining.{message, command_of, first_packet, server_for}
+use Rattle.node_rules.specs.JoiningPackets.{message, command_of, first_packet, server_for}
 use Rattle.node_rules.specs.Memory.{Memory, MeterSession, CoordinatorSession}
 use Rattle.line_laws.specs.Stores.{IsReadable, IsNamed}
 use Rattle.line_laws.proofs.Answered.{booked_low, granted_readable}

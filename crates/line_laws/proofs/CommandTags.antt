@@ -4,7 +4,7 @@ use Rattle.std.specs.Prelude.{nat_lt, length, ◌==◌, if◌then◌else◌}
 use Rattle.std.specs.Option.{option_map_or}
 use Rattle.broadcast_log.specs.declared.broadcast.Broadcast.{Broadcast}
 use Rattle.broadcast_log.specs.Grammar.{spelling}
-use Rattle.broadcast_log.specs.Reading.{broadcast_in}
+use Rattle.broadcast_log.specs.Reader.{broadcast_in}
 use Rattle.neighbour_checks.specs.Acks.{ack_in}
 use Rattle.neighbour_checks.specs.Neighbours.{acked_after, is_awaited}
 use Rattle.path_requests.specs.declared.message.PathMessage.{PathMessage}
@@ -12,8 +12,8 @@ use Rattle.path_requests.specs.declared.step.PathStep.{PathStep}
 use Rattle.path_requests.specs.declared.step.PathStep.TheVariants.{Forward, Answer, Done}
 use Rattle.path_requests.specs.declared.step.PathRefusal.{PathRefusal}
 use Rattle.path_requests.specs.Messages.{path_spelling}
-use Rattle.path_requests.specs.Reading.{path_in}
-use Rattle.path_requests.specs.Taking.{taken}
+use Rattle.path_requests.specs.Reader.{path_in}
+use Rattle.path_requests.specs.PathSteps.{taken}
 use Rattle.node_rules.specs.declared.refusal.Dropped.TheVariants.{BadUnit}
 use Rattle.node_rules.specs.Drafts.{Draft, checked, choose, counters_left, empty_draft, refused, sealed, sealing}
 use Rattle.node_rules.specs.Frames.{to_all}
@@ -22,16 +22,16 @@ use Rattle.node_rules.specs.Memory.{Memory, Node, address_of}
 use Rattle.node_rules.specs.MemoryDrafts.{in_memory}
 use Rattle.node_rules.specs.NodeSteps.{acts, left_by, stays}
 use Rattle.node_rules.specs.Plans.{Plan, carry_out, resting}
-use Rattle.node_rules.proofs.Writing.{clean}
+use Rattle.node_rules.proofs.FailedWrites.{clean}
 use Rattle.reach_rules.specs.declared.heard.CommandHeard.{CommandHeard}
 use Rattle.reach_rules.specs.declared.heard.CommandHeard.TheVariants as heard_of
 use Rattle.reach_rules.specs.declared.refusal.ReachDropped.{ReachDropped}
 use Rattle.reach_rules.specs.declared.refusal.ReachDropped.TheVariants.{Known, NotAwaited}
 use Rattle.reach_rules.specs.Broadcasts.{admits_broadcast, broadcast_fault, goes_further, hear_broadcast, hear_broadcast_in, hop_less, with_broadcast_mark}
 use Rattle.reach_rules.specs.CheckedReplies.{hear_acknowledgement, hear_acknowledgement_in}
-use Rattle.reach_rules.specs.PathAsking.{follows_path, hear_path, hear_path_in, next_toward, path_word}
+use Rattle.reach_rules.specs.PathRequests.{follows_path, hear_path, hear_path_in, next_toward, path_word}
 use Rattle.reach_rules.specs.ReachingNodes.{Beside, Reaching, drop_it, in_reach, reach_ends, remembers, adds_local, with_checks}
-use Rattle.reach_rules.specs.Receiving.{NeighbourCommand, hear_command, hear_command_at}
+use Rattle.reach_rules.specs.FurtherReceptions.{NeighbourCommand, hear_command, hear_command_at}
 use Rattle.line_rules.specs.Further.{with_beside}
 
 -- a node whose plan makes no tag makes none

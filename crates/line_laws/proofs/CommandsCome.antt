@@ -12,7 +12,7 @@ use Rattle.mac_frames.specs.declared.head.MacHead.{MacHead}
 use Rattle.mac_frames.specs.declared.head.MacHead.TheVariants as heads
 use Rattle.mesh_header.specs.declared.unit.Unit.{Unit as MeshUnit}
 use Rattle.mesh_header.specs.declared.unit.Unit.TheVariants as units
-use Rattle.mesh_header.specs.Reading.{unit_in}
+use Rattle.mesh_header.specs.Reader.{unit_in}
 use Rattle.node_rules.specs.Accepted.{Accepted}
 use Rattle.node_rules.specs.declared.heard.Heard.TheVariants as heard_words
 use Rattle.node_rules.specs.declared.heard.Path.{Path}
@@ -20,20 +20,20 @@ use Rattle.node_rules.specs.declared.heard.Path.TheVariants as paths
 use Rattle.node_rules.specs.declared.refusal.Dropped.TheVariants as drops
 use Rattle.node_rules.specs.declared.refusal.FrameRefusal.{FrameRefusal}
 use Rattle.node_rules.specs.declared.refusal.FrameRefusal.TheVariants as frames
-use Rattle.node_rules.specs.Accepting.{Accepting, accept, accept_head, is_for_me, is_own, marking, refuse}
+use Rattle.node_rules.specs.Acceptance.{Accepting, accept, accept_head, is_for_me, is_own, marking, refuse}
 use Rattle.node_rules.specs.Ciphers.{Ciphers, network}
 use Rattle.node_rules.specs.Coordinators as coordinator_rules
 use Rattle.node_rules.specs.Drafts.{choose as choose_plan}
 use Rattle.node_rules.specs.Frames.{Arrived, arrived, to_all}
-use Rattle.node_rules.specs.Hearing.{Hearing, hear, hear_sealed, drop_it, hear_unit_in}
+use Rattle.node_rules.specs.HearingRules.{Hearing, hear, hear_sealed, drop_it, hear_unit_in}
 use Rattle.node_rules.specs.Memory.{StationMemory, Memory, Node, Role, Coordinator, Meter, address_of}
 use Rattle.node_rules.specs.MemoryDrafts.{unread}
 use Rattle.node_rules.specs.Meters as meters
 use Rattle.node_rules.specs.NodeSteps.{NodeStep, acts, answering, left_by, of_station, stays}
 use Rattle.node_rules.specs.Plans.{Plan, carry_out, resting}
 use Rattle.node_rules.specs.Laws.{IsWhole, IsCutOff}
-use Rattle.node_rules.proofs.Writing.{clean}
-use Rattle.reach_rules.specs.Receiving.{NeighbourCommand, command_of, command_on, command_with}
+use Rattle.node_rules.proofs.FailedWrites.{clean}
+use Rattle.reach_rules.specs.FurtherReceptions.{NeighbourCommand, command_of, command_on, command_with}
 use Rattle.line_rules.specs.Answers.{Reception, coordinator_reception, meter_reception}
 use Rattle.line_rules.specs.Forgery.{accepting}
 use Rattle.line_rules.specs.Steps.{forged_by, hearing_step, identity}
@@ -43,7 +43,7 @@ use Rattle.line_laws.proofs.CoordinatorCalls.{accept_failed}
 use Rattle.line_laws.proofs.CustodyDeliver.{flown}
 use Rattle.line_laws.proofs.FlightsSay.{FlightSays}
 use Rattle.line_laws.proofs.LetterAccepts.{to_of}
-use Rattle.line_laws.proofs.Readings.{network_ranges}
+use Rattle.line_laws.proofs.StorableGrants.{network_ranges}
 use Rattle.line_laws.proofs.ReachSteps.{after_accepting, heard_node}
 use Rattle.line_laws.proofs.StoreMarks.{Accepts, IsAdmitted, IsPlain, Turned, Plain, Marked, accept_is}
 use Rattle.line_laws.proofs.Worlds.{at_place}

@@ -16,8 +16,8 @@ use Rattle.plc_base.specs.declared.key.Key.{Key}
 use Rattle.plc_base.specs.Grant.{Granted}
 use Rattle.frame_counters.specs.PeerMarks as marks
 use Rattle.joining_messages.specs.declared.message.JoinMessage.{JoinMessage}
-use Rattle.joining_messages.specs.Reading.{join_in}
-use Rattle.mesh_header.specs.Reading.{unit_in}
+use Rattle.joining_messages.specs.Reader.{join_in}
+use Rattle.mesh_header.specs.Reader.{unit_in}
 use Rattle.routing_set.specs.declared.rank.Rank.{Rank}
 use Rattle.routing_set.specs.RoutingSet as routing
 use Rattle.node_rules.specs.Accepted.{Accepted}
@@ -27,10 +27,10 @@ use Rattle.node_rules.specs.Ciphers.{Ciphers}
 use Rattle.node_rules.specs.Frames.{arrived}
 use Rattle.node_rules.specs.Memory.{StationMemory, Memory, Role, Coordinator}
 use Rattle.node_rules.specs.Plans.{Plan, resting}
-use Rattle.node_rules.specs.Accepting.{Accepting, accept, marking}
+use Rattle.node_rules.specs.Acceptance.{Accepting, accept, marking}
 use Rattle.node_rules.specs.Drafts.{Ends}
-use Rattle.node_rules.specs.Hearing as station_rules
-use Rattle.node_rules.specs.Hearing.{dropped}
+use Rattle.node_rules.specs.HearingRules as station_rules
+use Rattle.node_rules.specs.HearingRules.{dropped}
 use Rattle.node_rules.specs.MemoryDrafts.{Unread, unread}
 use Rattle.line_laws.proofs.HeardOctets.{unread_octets}
 use Rattle.node_rules.specs.MemoryDrafts.{in_memory}
@@ -41,7 +41,7 @@ use Rattle.line_laws.specs.Sizes.{IsMemorySized}
 use Rattle.line_laws.specs.Owed.{AreOctets, KeepsRanges}
 use Rattle.line_laws.proofs.HeadsSaid.{head_ranges}
 use Rattle.joining_messages.proofs.JoinRanges.{read_fits}
-use Rattle.line_laws.proofs.Keeping.{leads_beside}
+use Rattle.line_laws.proofs.KeptMemory.{leads_beside}
 use Rattle.line_laws.proofs.StoreRanks.{EntryFits}
 use Rattle.line_laws.proofs.StoreFold.{WordFits}
 use Rattle.line_laws.proofs.StoreBook.{Rest, rest_lasts, station_leads}

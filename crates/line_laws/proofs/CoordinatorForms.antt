@@ -10,7 +10,7 @@ use Rattle.store_tables.specs.SlotTables as slots
 use Rattle.plc_base.specs.Faults.{◌when◌}
 use Rattle.plc_base.specs.declared.address.Eui.{Eui}
 use Rattle.plc_base.specs.declared.key.Key.{Key}
-use Rattle.plc_base.specs.declared.key.Rand.{Rand}
+use Rattle.plc_base.specs.declared.key.RandomOctets.{RandomOctets}
 use Rattle.plc_base.specs.Grant.{Granted}
 use Rattle.group_keys.specs.declared.key_book.BookEntry.{BookEntry}
 use Rattle.group_keys.specs.KeyRing as ring
@@ -18,7 +18,7 @@ use Rattle.group_keys.specs.KeyBook as book
 use Rattle.joining_messages.specs.declared.message.JoinMessage.{JoinMessage}
 use Rattle.joining_messages.specs.declared.message.JoinBody.{JoinBody}
 use Rattle.joining_messages.specs.declared.message.JoinBody.TheVariants as body
-use Rattle.joining_messages.specs.Reading.{join_in}
+use Rattle.joining_messages.specs.Reader.{join_in}
 use Rattle.eap_psk.specs.Messages.{granting_text}
 use Rattle.eap_psk.specs.Tags.{mac_p_tag, mac_s_tag, granting_tag, success_tag}
 use Rattle.eap_psk.specs.declared.server.Server.{Server}
@@ -33,10 +33,10 @@ use Rattle.node_rules.specs.declared.refusal.CoordinatorRefusal.TheVariants as r
 use Rattle.node_rules.specs.Memory.{StationMemory, Memory, Command, CoordinatorSession, address_of, next_hop}
 use Rattle.node_rules.specs.Plans.{Plan}
 use Rattle.node_rules.specs.Drafts.{Draft, Lack, alone, empty_draft, with_ring, lack, counters_left, sealing, refused, sets_out}
-use Rattle.node_rules.specs.Hearing as station_rules
+use Rattle.node_rules.specs.HearingRules as station_rules
 use Rattle.node_rules.specs.Drafts as drafts
-use Rattle.node_rules.specs.Hearing.{dropped}
-use Rattle.node_rules.specs.Joining.{message, first_packet, server_for, command_of}
+use Rattle.node_rules.specs.HearingRules.{dropped}
+use Rattle.node_rules.specs.JoiningPackets.{message, first_packet, server_for, command_of}
 use Rattle.eap_psk.specs.Sessions.{rand_p_in}
 use Rattle.node_rules.specs.MemoryDrafts.{in_memory, on_station, station_part, with_memory_by, with_pair_tags, is_commanded, oldest, without_oldest, Unread}
 use Rattle.node_rules.specs.MemoryDrafts.{unread}
@@ -71,9 +71,9 @@ WayIsReached g m way = (origin : ℕ) → way ≡ Mesh origin → IsReached g m 
 -- what the coordinator says to a meter
 pub data IsSaidDown (E : Eui → Type 0) (own : CoordinatorIdentity) (m : Memory) : JoinMessage → Type 0 where
   SaysDecline : (eui : Eui) → E eui → IsSaidDown E own m (message eui body.Decline)
-  SaysChallenge : (eui : Eui) (value : Rand) → E eui → oldest m ≡ Some value
+  SaysChallenge : (eui : Eui) (value : RandomOctets) → E eui → oldest m ≡ Some value
       → IsSaidDown E own m (message eui (body.Challenge (first_packet (server_for eui own.eui value))))
-  SaysGrant : (s : CoordinatorSession) (e : BookEntry) (eui : Eui) (rand_p : Rand) (granted : Granted) → session_of m eui ≡ Some s
+  SaysGrant : (s : CoordinatorSession) (e : BookEntry) (eui : Eui) (rand_p : RandomOctets) (granted : Granted) → session_of m eui ≡ Some s
       → book.allowed_one m.book s.server.eui ≡ Some e → grant_for m s.server.eui ≡ Some granted
       → IsSaidDown E own m (message s.server.eui (body.Challenge (own.ciphers.third e.psk s.server rand_p granted)))
   SaysAccept : (s : CoordinatorSession) (eui : Eui) → session_of m eui ≡ Some s → IsSaidDown E own m (message s.server.eui (body.Accept 2))
@@ -133,7 +133,7 @@ module _ (W : RingWord → Type 0) (P : Eui → Key → Type 0) (E : Eui → Typ
 
   -- # What is heard
 
-  opens_made : (s : CoordinatorSession) (value : Rand) → oldest m ≡ Some value → sessions_full m s.server.eui ≡ false → E s.server.eui
+  opens_made : (s : CoordinatorSession) (value : RandomOctets) → oldest m ≡ Some value → sessions_full m s.server.eui ≡ false → E s.server.eui
       → MadeHere (opens s (empty_draft m))
   unfolding empty_draft
   opens_made s value here room known = Remembers (λ n. with_session s (without_oldest n)) (empty_draft m) Begins (Opens s value here room known)
@@ -170,7 +170,7 @@ module _ (W : RingWord → Type 0) (P : Eui → Key → Type 0) (E : Eui → Typ
   opens_fits : (s : CoordinatorSession) → Fits m.station 0 1 (opens s (empty_draft m))
   opens_fits s = remembered_fits m.station _ _ (begun_fits m.station 1 m)
 
-  challenges_is : (way : Way) (server : Server) (value : Rand) → WayIsReached g m way
+  challenges_is : (way : Way) (server : Server) (value : RandomOctets) → WayIsReached g m way
       → IsSaidDown E own m (message server.eui (body.Challenge (first_packet server))) → oldest m ≡ Some value → sessions_full m server.eui ≡ false
       → E server.eui → Is (challenges m way server g.now)
   challenges_is way server value there said here room known =
@@ -192,20 +192,20 @@ module _ (W : RingWord → Type 0) (P : Eui → Key → Type 0) (E : Eui → Typ
   asked_is way eui there known = choose_planned (λ allowed. open_is way eui there known) (λ other. declines_is way _ there (SaysDecline eui known))
 
   -- the keys of a grant go to a meter whose session is there and which is allowed
-  abbrev noted : CoordinatorSession → BookEntry → Rand → Granted → Draft Memory
+  abbrev noted : CoordinatorSession → BookEntry → RandomOctets → Granted → Draft Memory
   noted s e rand_p granted =
       with_pair_tags (mac_s_tag s.server.eui s.server.id_s rand_p ∷ granting_tag s.server.eui 2 s.server.rand_s rand_p (granting_text granted) ∷ [])
       (mac_p_tag s.server.eui s.server.id_s s.server.rand_s rand_p ∷ [])
       (with_book_entry (book.issued_entry s.server.eui granted e)
       (with_memory_by (with_session (record s { server = record s.server { rand_p = Some rand_p } })) (empty_draft m)))
 
-  answered_made : (s : CoordinatorSession) (eui : Eui) (rand_p : Rand) → session_of m eui ≡ Some s
+  answered_made : (s : CoordinatorSession) (eui : Eui) (rand_p : RandomOctets) → session_of m eui ≡ Some s
       → MadeHere (with_memory_by (with_session (record s { server = record s.server { rand_p = Some rand_p } })) (empty_draft m))
   unfolding empty_draft
   answered_made s eui rand_p there = Remembers (with_session (record s { server = record s.server { rand_p = Some rand_p } })) (empty_draft m) Begins
       (Answers (record s { server = record s.server { rand_p = Some rand_p } }) s eui there refl)
 
-  issues : (s : CoordinatorSession) (e : BookEntry) (eui : Eui) (rand_p : Rand) (granted : Granted) → session_of m eui ≡ Some s
+  issues : (s : CoordinatorSession) (e : BookEntry) (eui : Eui) (rand_p : RandomOctets) (granted : Granted) → session_of m eui ≡ Some s
       → book.allowed_one m.book s.server.eui ≡ Some e → grant_for m s.server.eui ≡ Some granted
       → EntryChange L P E m (with_memory_by (with_session (record s { server = record s.server { rand_p = Some rand_p } })) (empty_draft m)).memory.book
       (book.issued_entry s.server.eui granted e)
@@ -213,18 +213,18 @@ module _ (W : RingWord → Type 0) (P : Eui → Key → Type 0) (E : Eui → Typ
   issues s e eui rand_p granted there allowed is =
       Issues s.server.eui granted e (OfSession eui s there) (record { eui = s.server.eui; book = m.book; is = is }) allowed
 
-  noted_made : (s : CoordinatorSession) (e : BookEntry) (eui : Eui) (rand_p : Rand) (granted : Granted) → session_of m eui ≡ Some s
+  noted_made : (s : CoordinatorSession) (e : BookEntry) (eui : Eui) (rand_p : RandomOctets) (granted : Granted) → session_of m eui ≡ Some s
       → book.allowed_one m.book s.server.eui ≡ Some e → grant_for m s.server.eui ≡ Some granted
       → MadeHere (noted s e rand_p granted)
   noted_made s e eui rand_p granted there allowed is =
       Tags _ _ _ (Enters _ _ (answered_made s eui rand_p there) (issues s e eui rand_p granted there allowed is))
 
-  noted_lacks : (s : CoordinatorSession) (e : BookEntry) (rand_p : Rand) (granted : Granted) (to octets : ℕ) → LacksNothing m.station to octets
+  noted_lacks : (s : CoordinatorSession) (e : BookEntry) (rand_p : RandomOctets) (granted : Granted) (to octets : ℕ) → LacksNothing m.station to octets
       → LacksNothing (noted s e rand_p granted).memory.station to octets
   unfolding empty_draft with_memory_by with_book_entry with_pair_tags
   noted_lacks s e rand_p granted to octets f = f
 
-  keys_is : (s : CoordinatorSession) (e : BookEntry) (eui : Eui) (rand_p : Rand) (granted : Granted) → session_of m eui ≡ Some s
+  keys_is : (s : CoordinatorSession) (e : BookEntry) (eui : Eui) (rand_p : RandomOctets) (granted : Granted) → session_of m eui ≡ Some s
       → book.allowed_one m.book s.server.eui ≡ Some e → grant_for m s.server.eui ≡ Some granted
       → Is (keys_for own m s e rand_p granted g.now)
   keys_is s e eui rand_p granted there allowed is =
@@ -242,19 +242,19 @@ module _ (W : RingWord → Type 0) (P : Eui → Key → Type 0) (E : Eui → Typ
       option_planned (λ granted. keys_for own m s e (rand_p_in packet) granted g.now) (grant_for m s.server.eui) (drop_it m drops.NotAllowed)
       (λ granted is. keys_is s e eui _ granted there allowed is) (λ none. Refuses _))
 
-  abbrev closed : CoordinatorSession → Rand → Draft Memory
+  abbrev closed : CoordinatorSession → RandomOctets → Draft Memory
   closed s rand_p = with_pair_tags [] (success_tag s.server.eui 2 s.server.rand_s rand_p ∷ []) (with_memory_by (without_session s.server.eui) (empty_draft m))
 
-  closed_made : (s : CoordinatorSession) (rand_p : Rand) → MadeHere (closed s rand_p)
+  closed_made : (s : CoordinatorSession) (rand_p : RandomOctets) → MadeHere (closed s rand_p)
   unfolding empty_draft
   closed_made s rand_p = Tags _ _ _ (Remembers (without_session s.server.eui) (empty_draft m) Begins (Closes s.server.eui))
 
-  closed_lacks : (s : CoordinatorSession) (rand_p : Rand) (to octets : ℕ) → LacksNothing m.station to octets
+  closed_lacks : (s : CoordinatorSession) (rand_p : RandomOctets) (to octets : ℕ) → LacksNothing m.station to octets
       → LacksNothing (closed s rand_p).memory.station to octets
   unfolding empty_draft with_memory_by with_pair_tags
   closed_lacks s rand_p to octets f = f
 
-  accepts_is : (s : CoordinatorSession) (rand_p : Rand) (eui : Eui) → session_of m eui ≡ Some s → Is (accepts m s rand_p g.now)
+  accepts_is : (s : CoordinatorSession) (rand_p : RandomOctets) (eui : Eui) → session_of m eui ≡ Some s → Is (accepts m s rand_p g.now)
   accepts_is s rand_p eui there =
       let join = message s.server.eui (body.Accept 2) in
       checked_planned (λ lacks. sealed_planned _ _ (
@@ -264,7 +264,7 @@ module _ (W : RingWord → Type 0) (P : Eui → Key → Type 0) (E : Eui → Typ
         tt,
       ))
 
-  fourth_is : (s : CoordinatorSession) (e : BookEntry) (packet : List ℕ) (rand_p : Rand) (eui : Eui) → session_of m eui ≡ Some s
+  fourth_is : (s : CoordinatorSession) (e : BookEntry) (packet : List ℕ) (rand_p : RandomOctets) (eui : Eui) → session_of m eui ≡ Some s
       → Is (take_fourth own m s e packet rand_p g.now)
   fourth_is s e packet rand_p eui there = checked_planned (λ right. accepts_is s rand_p eui there)
 
@@ -403,10 +403,10 @@ module _ (W : RingWord → Type 0) (P : Eui → Key → Type 0) (E : Eui → Typ
         tt,
       ))) (λ none. Refuses _))
     where
-      asked_by : Rand → CoordinatorSession
+      asked_by : RandomOctets → CoordinatorSession
       asked_by value = asking (Mesh to) (server_for eui own.eui value)
 
-      asking_for : Rand → JoinMessage
+      asking_for : RandomOctets → JoinMessage
       asking_for value = message eui (body.Challenge (first_packet (server_for eui own.eui value)))
 
   -- an allowed meter's address is the book's

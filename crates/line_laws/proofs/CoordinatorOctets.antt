@@ -7,7 +7,7 @@ use Rattle.std.proofs.lemmas.List.Elements.{All-nil, All-tail, All-push, All-set
 use Rattle.plc_base.specs.Fields.{AreOctets}
 use Rattle.plc_base.specs.declared.address.Eui.{Eui}
 use Rattle.plc_base.specs.declared.key.Key.{Key}
-use Rattle.plc_base.specs.declared.key.Rand.{Rand}
+use Rattle.plc_base.specs.declared.key.RandomOctets.{RandomOctets}
 use Rattle.plc_base.specs.Grant.{Granted}
 use Rattle.group_keys.specs.declared.key_book.BookEntry.{BookEntry}
 use Rattle.group_keys.specs.Fields.{held_octets}
@@ -16,7 +16,7 @@ use Rattle.group_keys.specs.KeyBook as book
 use Rattle.joining_messages.specs.declared.message.JoinMessage.{JoinMessage}
 use Rattle.joining_messages.specs.declared.message.JoinBody.{JoinBody}
 use Rattle.joining_messages.specs.declared.message.JoinBody.TheVariants as body
-use Rattle.joining_messages.specs.Reading.{join_in}
+use Rattle.joining_messages.specs.Reader.{join_in}
 use Rattle.eap_psk.specs.Sessions.{rand_p_in, peer_of}
 use Rattle.mesh_header.specs.declared.unit.Unit.{Unit as MeshUnit}
 use Rattle.node_rules.specs.Accepted.{Accepted}
@@ -31,9 +31,9 @@ use Rattle.node_rules.specs.Ciphers.{network}
 use Rattle.node_rules.specs.Memory.{StationMemory, Memory, CoordinatorSession, next_hop}
 use Rattle.node_rules.specs.Plans.{Plan}
 use Rattle.node_rules.specs.Drafts.{Draft, alone, empty_draft, counters_left, refused, sealing}
-use Rattle.node_rules.specs.Hearing as station_rules
-use Rattle.node_rules.specs.Hearing.{dropped}
-use Rattle.node_rules.specs.Joining.{message, first_packet, server_for}
+use Rattle.node_rules.specs.HearingRules as station_rules
+use Rattle.node_rules.specs.HearingRules.{dropped}
+use Rattle.node_rules.specs.JoiningPackets.{message, first_packet, server_for}
 use Rattle.node_rules.specs.MemoryDrafts.{in_memory, with_memory_by, is_commanded, oldest, without_oldest, Unread, unread}
 use Rattle.node_rules.specs.Coordinators.{CoordinatorIdentity, drop_it, is_of, session_of, with_session, without_session, grant_for, says, with_book_entry}
 use Rattle.node_rules.specs.Coordinators.{declines, opens, challenges, open_session, join_without_packet, keys_for, take_second, accepts, take_fourth}
@@ -156,7 +156,7 @@ module _ (eui : Eui) (own : HasEui eui) (m : Memory) (h : MemorySpeaks m) (reads
   none = All-nil (λ n. n < 256)
 
   -- the first packet
-  first_speaks : (meter : Eui) (value : Rand) → HasEui meter → RandSpeaks value
+  first_speaks : (meter : Eui) (value : RandomOctets) → HasEui meter → RandSpeaks value
       → JoinSpeaks (message meter (body.Challenge (first_packet (server_for meter eui value))))
   first_speaks meter value named is =
       join_speaks meter (body.Challenge (first_packet (server_for meter eui value))) named (first_octets 1 value.0 eui.0 (omega arith) is.0 own.1)
@@ -182,7 +182,7 @@ module _ (eui : Eui) (own : HasEui eui) (m : Memory) (h : MemorySpeaks m) (reads
 
   -- # Packets
 
-  keys_is : (s : CoordinatorSession) (e : BookEntry) (rand_p : Rand) (granted : Granted) → ServerSpeaks s → EntrySpeaks e → GrantSpeaks granted
+  keys_is : (s : CoordinatorSession) (e : BookEntry) (rand_p : RandomOctets) (granted : Granted) → ServerSpeaks s → EntrySpeaks e → GrantSpeaks granted
       → PlanSpeaks (keys_for self m s e rand_p granted now)
   keys_is s e rand_p granted k pair g = checked_speaks m h _ (λ lacks.
       let t : CoordinatorSession = record s { server = record s.server { rand_p = Some rand_p } } in
@@ -200,7 +200,7 @@ module _ (eui : Eui) (own : HasEui eui) (m : Memory) (h : MemorySpeaks m) (reads
       (λ granted is. keys_is s e (rand_p_in packet) granted k pair (grant_speaks m.station.ring (book.address_of m.book s.server.eui) granted reads is))
       (refuses m h _ _))
 
-  accepts_is : (s : CoordinatorSession) (rand_p : Rand) → ServerSpeaks s → PlanSpeaks (accepts m s rand_p now)
+  accepts_is : (s : CoordinatorSession) (rand_p : RandomOctets) → ServerSpeaks s → PlanSpeaks (accepts m s rand_p now)
   accepts_is s rand_p k = checked_speaks m h _ (λ lacks.
       sealed_speaks m h _ _ _ (says_speaks s.way (message s.server.eui (body.Accept 2)) _
       (join_speaks s.server.eui (body.Accept 2) k.0 (front 3 (2 ∷ 0 ∷ 4 ∷ []) (omega arith)

@@ -9,7 +9,7 @@ use Rattle.plc_base.specs.declared.key.Key.{Key}
 use Rattle.joining_messages.specs.declared.message.JoinMessage.{JoinMessage}
 use Rattle.mesh_header.specs.declared.unit.Unit.{Unit as MeshUnit}
 use Rattle.fragment_buffers.specs.Reassembly.{Reassembly}
-use Rattle.fragment_buffers.specs.Taking as pieces
+use Rattle.fragment_buffers.specs.PieceIntake as pieces
 use Rattle.node_rules.specs.Accepted.{Accepted}
 use Rattle.node_rules.specs.declared.heard.MeterHeard.{MeterHeard}
 use Rattle.node_rules.specs.declared.heard.MeterHeard.TheVariants as meter_heard
@@ -21,9 +21,9 @@ use Rattle.node_rules.specs.declared.refusal.SendRefusal.{SendRefusal}
 use Rattle.node_rules.specs.Frames.{SealedUnit, Arrived}
 use Rattle.node_rules.specs.Memory.{StationMemory, Memory, Load, Datagram, Command, Body}
 use Rattle.node_rules.specs.Plans.{Plan, resting}
-use Rattle.node_rules.specs.Accepting.{Accepting, accept, marking}
-use Rattle.node_rules.specs.Joining.{command_of}
-use Rattle.node_rules.specs.Hearing.{dropped}
+use Rattle.node_rules.specs.Acceptance.{Accepting, accept, marking}
+use Rattle.node_rules.specs.JoiningPackets.{command_of}
+use Rattle.node_rules.specs.HearingRules.{dropped}
 use Rattle.node_rules.specs.Calls as calls
 use Rattle.node_rules.specs.Meters as meters
 use Rattle.node_rules.specs.Coordinators as coordinators
@@ -93,7 +93,7 @@ AnyEui eui = Unit {0}
 abbrev pub AnyPair : Eui → Key → Type 0
 AnyPair eui psk = Unit {0}
 
--- what comes of a frame weighs so much at most
+-- what comes of a frame weighs this much at most
 pub record Comes (g : Given) (n i brought : ℕ) : Type 0 where
   pub comes : (by : ℕ) (u : MeshUnit) → IsCome g by false u → weigh n g.note (content_is i u) ≤ brought
 

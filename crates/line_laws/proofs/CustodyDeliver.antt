@@ -27,7 +27,7 @@ use Rattle.node_rules.specs.Ciphers.{Ciphers}
 use Rattle.node_rules.specs.Frames.{SealedUnit, arrived, to_all}
 use Rattle.node_rules.specs.Memory.{Memory, Node, Role, Coordinator, Meter}
 use Rattle.node_rules.specs.Plans.{Plan, carry_out, resting}
-use Rattle.node_rules.specs.Accepting.{Accepting, accept, marking}
+use Rattle.node_rules.specs.Acceptance.{Accepting, accept, marking}
 use Rattle.line_rules.specs.Answers.{Reception, Up, frame_word, station_reception, meter_reception, coordinator_reception}
 use Rattle.node_rules.specs.Laws.{IsWhole, IsCutOff}
 use Rattle.node_rules.specs.Meters as meters
@@ -37,7 +37,7 @@ use Rattle.line_rules.specs.Steps.{identity, hearing_step, note_by, forged_by, w
 use Rattle.line_rules.specs.Steps.{hearing_outcome, arrives}
 use Rattle.line_rules.specs.Worlds.{Flight, Trace, World, has_octets, note_of, is_forged_frame}
 use Rattle.line_events.specs.declared.happenings.Handed.{Handed}
-use Rattle.node_rules.proofs.Writing.{clean}
+use Rattle.node_rules.proofs.FailedWrites.{clean}
 use Rattle.node_rules.specs.Ciphers.{OpensWhatItSeals}
 use Rattle.line_laws.specs.SealedUnits.{IsSealedUnit, SpellsSealedUnit, IsFlight, AreFlights}
 use Rattle.line_laws.specs.Custody.{weigh, below, sealed_unit_is, up_is}

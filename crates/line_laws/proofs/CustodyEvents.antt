@@ -22,7 +22,7 @@ use Rattle.node_rules.specs.NodeSteps.{NodeStep, acts, stays, left_by, of_statio
 use Rattle.line_rules.specs.Steps.{is_taken, tag_of, sending, sent_if, node_outcome, world_after, running_world, flights_of, ticked}
 use Rattle.line_rules.specs.Worlds.{Flight, World}
 use Rattle.line_events.specs.declared.happenings.Handed.{Handed}
-use Rattle.node_rules.proofs.Writing.{clean}
+use Rattle.node_rules.proofs.FailedWrites.{clean}
 use Rattle.node_rules.specs.Ciphers.{OpensWhatItSeals}
 use Rattle.line_laws.specs.Custody.{weigh, below, sent_is, keeps}
 use Rattle.line_laws.specs.Places.{node_keeps, flight_is, live_is, places, issued, IsInCustody, OneNode, LiveFalls}

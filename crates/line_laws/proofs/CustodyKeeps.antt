@@ -7,14 +7,14 @@ use Rattle.std.proofs.lemmas.List.Elements.{All-nil, All-filter}
 use Rattle.plc_base.specs.Grant.{Granted}
 use Rattle.plc_base.specs.declared.address.Eui.{Eui}
 use Rattle.plc_base.specs.declared.key.Key.{Key}
-use Rattle.plc_base.specs.declared.key.Rand.{Rand}
+use Rattle.plc_base.specs.declared.key.RandomOctets.{RandomOctets}
 use Rattle.fragment_buffers.specs.Reassembly.{Reassembly}
-use Rattle.fragment_buffers.specs.Taking as pieces
+use Rattle.fragment_buffers.specs.PieceIntake as pieces
 use Rattle.joining_messages.specs.declared.message.JoinMessage.{JoinMessage}
 use Rattle.node_rules.specs.declared.heard.SentHow.{SentHow}
 use Rattle.node_rules.specs.declared.refusal.SendRefusal.{SendRefusal}
 use Rattle.node_rules.specs.declared.refusal.SendRefusal.TheVariants as sends
-use Rattle.node_rules.specs.Joining.{command_of}
+use Rattle.node_rules.specs.JoiningPackets.{command_of}
 use Rattle.node_rules.specs.Memory.{StationMemory, Memory, Node, Body, Load, Datagram, Command}
 use Rattle.node_rules.specs.Plans.{Plan, carry_out, resting}
 use Rattle.node_rules.specs.Calls as calls
@@ -25,7 +25,7 @@ use Rattle.node_rules.specs.MemoryDrafts.{in_memory, with_station, give_random, 
 use Rattle.node_rules.specs.Laws.{IsWhole, IsCutOff}
 use Rattle.node_rules.specs.NodeSteps.{NodeStep, acts, stays, left_by, of_station}
 use Rattle.node_rules.proofs.MemoryDraftShapes.{whole}
-use Rattle.node_rules.proofs.Writing.{clean}
+use Rattle.node_rules.proofs.FailedWrites.{clean}
 use Rattle.line_laws.specs.Custody.{weigh, load_is, sent_is, keeps}
 use Rattle.line_laws.specs.Places.{node_keeps}
 use Rattle.line_laws.specs.Ranges.{HasRoomInFrames, IsStationRanged}
@@ -207,7 +207,7 @@ module _ (o : coordinators.CoordinatorIdentity) (g : Given) (m : Memory) where
 -- # The calls
 
 module _ (S : ℕ → SentAs → Type 0) (own : ℕ) (m : Memory) (ranged : IsStationRanged m.station) (first : StationIsTrue S own m.station) where
-  pub random_clean : (value : Rand) → PlanClean S own m (give_random m value)
+  pub random_clean : (value : RandomOctets) → PlanClean S own m (give_random m value)
   random_clean value = plan_clean S own NoWord (call_given 0 0 0) refl no_says m ranged first NoGrant NoPair NoEui
       (call_ranged NoWord 0 0 0 None tt (λ t n load none. absurd none) never) (no_known S own (call_given 0 0 0) refl) given_ends
       (MadeBy NoWord NoGrant NoPair NoEui (call_given 0 0 0) m AnyAnswer) (λ d a x. x.0) _ (random_is NoWord NoGrant NoPair NoEui (call_given 0 0 0) m value)

@@ -9,8 +9,8 @@ use Rattle.std.proofs.lemmas.Bool.{cases_eq}
 use Rattle.std.proofs.lemmas.Bool.Decides.{nat_tests}
 use Rattle.mesh_header.specs.Pieces.{Placed}
 use Rattle.fragment_buffers.specs.Reassembly.{PlacedPiece, Reassembly, placed, begun, octet_of, first_of, octet_at, before_all, gathered, datagram_of, overlaps}
-use Rattle.fragment_buffers.specs.Taking as pieces
-use Rattle.fragment_buffers.specs.Taking.{same_name, grown, settled, joined, behind, taken_in, taken, has_room}
+use Rattle.fragment_buffers.specs.PieceIntake as pieces
+use Rattle.fragment_buffers.specs.PieceIntake.{same_name, grown, settled, joined, behind, taken_in, taken, has_room}
 use Rattle.line_laws.specs.Custody.{weigh, below, covers, placed_is, held_is}
 
 -- a position at which a piece has an octet lies in it

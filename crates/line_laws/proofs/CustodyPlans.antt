@@ -12,7 +12,7 @@ use Rattle.mesh_header.specs.declared.unit.Mesh.{Mesh}
 use Rattle.mesh_header.specs.declared.unit.Unit.TheVariants as units
 use Rattle.mesh_header.specs.Pieces.{Placed}
 use Rattle.fragment_buffers.specs.Reassembly.{begun as piece_begun}
-use Rattle.fragment_buffers.specs.Taking as pieces
+use Rattle.fragment_buffers.specs.PieceIntake as pieces
 use Rattle.node_rules.specs.declared.heard.Heard.{Heard}
 use Rattle.node_rules.specs.declared.heard.Heard.TheVariants as heard
 use Rattle.node_rules.specs.Frames.{Sent, Sealed, Up, Down}
@@ -25,7 +25,7 @@ use Rattle.node_rules.specs.MemoryDrafts.{in_memory, on_station, station_part, w
 use Rattle.node_rules.specs.Coordinators.{with_book_entry}
 use Rattle.node_rules.specs.Laws.{IsWhole, IsCutOff}
 use Rattle.node_rules.specs.NodeSteps.{NodeStep, acts, stays, left_by}
-use Rattle.node_rules.proofs.Writing.{clean}
+use Rattle.node_rules.proofs.FailedWrites.{clean}
 use Rattle.node_rules.proofs.MemoryDraftShapes.{whole}
 use Rattle.line_laws.specs.Custody.{weigh, below, out_is, sent_is, held_is, up_is, keeps}
 use Rattle.line_laws.specs.Places.{node_keeps}

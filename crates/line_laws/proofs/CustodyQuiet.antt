@@ -3,7 +3,7 @@ use Rattle.std.proofs.Common.{◌≡◌, ℕ, ◌<◌, [], Result, Ok, Err, refl
 use Rattle.plc_base.specs.Keeper.{Records}
 use Rattle.plc_base.specs.declared.address.Eui.{Eui}
 use Rattle.plc_base.specs.declared.key.Key.{Key}
-use Rattle.plc_base.specs.declared.key.Rand.{Rand}
+use Rattle.plc_base.specs.declared.key.RandomOctets.{RandomOctets}
 use Rattle.plc_base.specs.declared.keeper.BadStore.{BadStore}
 use Rattle.line_events.specs.declared.event.Answer.{Answer}
 use Rattle.node_rules.specs.Memory.{StationMemory, Memory, Node, Role, Coordinator, Meter}
@@ -21,7 +21,7 @@ use Rattle.group_keys.specs.KeyBook as book
 use Rattle.routing_set.specs.RoutingSet as routing
 use Rattle.routing_set.specs.OwnNumber as own_number
 use Rattle.node_rules.specs.Drafts.{tag_slot}
-use Rattle.node_rules.specs.StoreReading.{tag_in, reading, station_of, memory_of, remembering}
+use Rattle.node_rules.specs.RestartStates.{tag_in, reading, station_of, memory_of, remembering}
 use Rattle.line_rules.specs.Steps.{restarts, memory_by}
 use Rattle.line_laws.specs.Custody.{keeps}
 use Rattle.line_laws.specs.Places.{node_keeps}
@@ -104,7 +104,7 @@ module _ (n i : ℕ) (some : 0 < n) (m : Memory) where
   no_words : SaysNoDatagram NoWord n i
   no_words = record { none = λ to note load none. absurd none }
 
-  pub random_kept : (value : Rand) → BodiesKept n i 0 (up_by (λ a. 0)) m (give_random m value)
+  pub random_kept : (value : RandomOctets) → BodiesKept n i 0 (up_by (λ a. 0)) m (give_random m value)
   random_kept value = plan_kept NoWord (call_given 0 0 0) n i 0 some (quiet_brings NoWord 0 no_words) NoGrant NoPair NoEui m given_ends (λ a. 0) _ _
       (λ k answer none. absurd none) (λ d answer h. (h.0, refl)) _ (forms.random_is NoWord NoGrant NoPair NoEui (call_given 0 0 0) m value)
 

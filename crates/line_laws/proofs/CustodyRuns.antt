@@ -22,7 +22,7 @@ use Rattle.node_rules.specs.Accepted.{Accepted}
 use Rattle.node_rules.specs.Ciphers.{Ciphers, OpensWhatItSeals}
 use Rattle.node_rules.specs.declared.refusal.FrameRefusal.{FrameRefusal}
 use Rattle.node_rules.specs.declared.refusal.FrameRefusal.TheVariants as frames
-use Rattle.node_rules.specs.Accepting.{accept}
+use Rattle.node_rules.specs.Acceptance.{accept}
 use Rattle.node_rules.specs.Frames.{arrived}
 use Rattle.node_rules.specs.Memory.{Memory, Role, Coordinator, Meter, Node}
 use Rattle.node_rules.specs.NodeSteps.{acts, left_by, of_station, stays}
@@ -45,7 +45,7 @@ use Rattle.line_laws.proofs.CustodyArrives.{HandedIsOf}
 use Rattle.line_laws.proofs.AddressPuts.{RingIn}
 use Rattle.line_laws.proofs.CustodySteps.{AtHome, SpeaksInRange, HomedAt, LaterHomed, sent_as, falls_on, event_at, Kept}
 use Rattle.line_laws.proofs.CustodyTags.{TagsDiffer, Custody, arrival_keeps, untagged_by}
-use Rattle.line_laws.proofs.CustodyTaking.{TakesHome}
+use Rattle.line_laws.proofs.CustodyGrants.{TakesHome}
 use Rattle.line_laws.proofs.CustodyWhole.{OneSend}
 use Rattle.line_laws.proofs.CustodyWorld.{up_itself, ups_differ}
 use Rattle.line_laws.proofs.FlightFolds.{came_octets}

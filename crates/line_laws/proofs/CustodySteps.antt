@@ -34,7 +34,7 @@ use Rattle.node_rules.specs.MemoryDrafts.{with_station}
 use Rattle.node_rules.specs.Meters as meters
 use Rattle.node_rules.specs.NodeSteps.{NodeStep, acts, stays, of_station, answering, changing}
 use Rattle.node_rules.specs.Plans.{Plan, resting}
-use Rattle.node_rules.specs.StoreReading.{blank_station, first_grant}
+use Rattle.node_rules.specs.RestartStates.{blank_station, first_grant}
 use Rattle.line_rules.specs.Answers.{sent_word}
 use Rattle.line_rules.specs.Forgery.{Comes, OfFlight, OfScript}
 use Rattle.line_rules.specs.Steps.{Step, set_up, running_world, world_after, flights_of, made_node, blank_node, psk_of, ticked, node_outcome, sending, sent_if}
@@ -63,7 +63,7 @@ use Rattle.line_laws.proofs.CustodyWorld.{custody_after, sent_flies, set_sum, li
 use Rattle.line_laws.proofs.FlightFolds.{address_low}
 use Rattle.line_laws.proofs.IssueNodes.{acts_whole, depot_address}
 use Rattle.line_laws.proofs.IssueWorlds.{after_here}
-use Rattle.line_laws.proofs.Keeping.{Left}
+use Rattle.line_laws.proofs.KeptMemory.{Left}
 use Rattle.line_laws.proofs.NodeCalls.{call_given, no_some}
 use Rattle.line_laws.proofs.Nodes.{NodeOk}
 use Rattle.line_laws.proofs.RangeArrives.{NodeRanged}
@@ -72,7 +72,7 @@ use Rattle.line_laws.proofs.RangeCoordinator.{HasEight, SpeaksWell}
 use Rattle.line_laws.proofs.RangeFrames.{IsSent, flights_fit}
 use Rattle.line_laws.proofs.RangeHeard.{SaysShort}
 use Rattle.line_laws.proofs.RangePlans.{DidRanged, acts_ranged}
-use Rattle.line_laws.proofs.Readings.{held, none_held}
+use Rattle.line_laws.proofs.StorableGrants.{held, none_held}
 use Rattle.line_laws.proofs.NodesOk.{coordinator_acts, read_again}
 use Rattle.line_laws.proofs.TagRuns.{at_end}
 use Rattle.line_laws.proofs.StepKinds.{IsAddressed, IsAddressedAt, workshop, IsAsked, AskRandom, AskJoin, AskLeave, AskRekey, AskTurn, AskChallenge}

@@ -20,7 +20,7 @@ use Rattle.node_rules.specs.declared.refusal.FrameRefusal.TheVariants as frames
 use Rattle.node_rules.specs.Ciphers.{Ciphers}
 use Rattle.node_rules.specs.Frames.{arrived}
 use Rattle.node_rules.specs.Memory.{StationMemory, Memory, Meter, Node}
-use Rattle.node_rules.specs.Accepting.{accept}
+use Rattle.node_rules.specs.Acceptance.{accept}
 use Rattle.node_rules.specs.NodeSteps.{NodeStep, acts, of_station}
 use Rattle.line_rules.specs.Steps.{identity, hearing_step, note_by, forged_by, arrives, hearing_outcome, world_after, running_world, trace_of, happenings}
 use Rattle.line_rules.specs.Worlds.{Flight, Trace, World, is_forged_tag}
@@ -35,7 +35,7 @@ use Rattle.line_laws.proofs.RangeArrives.{NodeRanged, JoinsWell, accepts_ranged,
 use Rattle.line_laws.proofs.CustodyPieces.{NameHasNote}
 use Rattle.line_laws.proofs.CustodyPlans.{Agrees}
 use Rattle.line_laws.proofs.CustodyWhole.{OneSend}
-use Rattle.line_laws.proofs.CustodyTaking.{TakesHome}
+use Rattle.line_laws.proofs.CustodyGrants.{TakesHome}
 use Rattle.line_laws.proofs.CustodyTrue.{StationIsTrue, HearsTrue, DidTrue, acts_true}
 use Rattle.line_laws.proofs.CustodyDeliver.{opening, arrival_in_custody}
 use Rattle.line_laws.proofs.CustodyArrives.{NodeTrue, HandedIsOf, accepts_true, came_true, arrives_true}

@@ -28,11 +28,11 @@ use Rattle.node_rules.specs.Drafts.{with_ring}
 use Rattle.node_rules.specs.Drafts.{with_routing_by, goes, body_goes, waits, leave}
 use Rattle.node_rules.specs.MemoryDrafts.{in_memory, on_station, station_part, with_memory_by, with_pair_tags, goes_up, goes_down}
 use Rattle.node_rules.specs.Coordinators.{with_book_entry}
-use Rattle.node_rules.specs.Hearing.{dropped}
+use Rattle.node_rules.specs.HearingRules.{dropped}
 use Rattle.node_rules.specs.Meters as meters
 use Rattle.node_rules.specs.Laws.{IsWhole, IsCutOff}
 use Rattle.node_rules.specs.NodeSteps.{NodeStep, acts, stays, left_by}
-use Rattle.node_rules.proofs.Writing.{clean}
+use Rattle.node_rules.proofs.FailedWrites.{clean}
 use Rattle.line_laws.specs.SealedUnits.{IsSealedUnit}
 use Rattle.line_laws.specs.Sends.{SentAs, UnitIsOf, LoadIsOf, OutIsOf, HeldIsOf, UpIsOf}
 use Rattle.line_laws.proofs.Planned.{Planned, Refuses, Keeps, Ended}

@@ -9,8 +9,8 @@ use Rattle.mesh_header.specs.declared.unit.Unit.{Unit as MeshUnit}
 use Rattle.mesh_header.specs.declared.unit.Unit.TheVariants as units
 use Rattle.mesh_header.specs.Pieces.{Placed}
 use Rattle.fragment_buffers.specs.Reassembly.{PlacedPiece, Reassembly, placed, begun, octet_of, first_of, octet_at, before_all, gathered, datagram_of, overlaps}
-use Rattle.fragment_buffers.specs.Taking as pieces
-use Rattle.fragment_buffers.specs.Taking.{same_name, grown, settled, joined, behind, taken_in, taken, has_room}
+use Rattle.fragment_buffers.specs.PieceIntake as pieces
+use Rattle.fragment_buffers.specs.PieceIntake.{same_name, grown, settled, joined, behind, taken_in, taken, has_room}
 use Rattle.node_rules.specs.declared.heard.Heard.{Heard}
 use Rattle.node_rules.specs.declared.heard.Heard.TheVariants as heard
 use Rattle.node_rules.specs.Memory.{StationMemory, address_of}

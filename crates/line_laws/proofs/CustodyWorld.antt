@@ -9,7 +9,7 @@ use Rattle.std.proofs.lemmas.Bool.Decides.{nat_tests}
 use Rattle.std.proofs.lemmas.List.Elements.{All-head, All-tail}
 use Rattle.std.proofs.lemmas.List.Sums.{sum_by-cons, sum_by-append, sum_by-le-sum_by, get_or-le-sum_by}
 use Rattle.plc_base.specs.declared.key.Key.{Key}
-use Rattle.mesh_header.specs.Reading.{unit_in}
+use Rattle.mesh_header.specs.Reader.{unit_in}
 use Rattle.mesh_header.specs.Grammar.{spelling}
 use Rattle.mac_frames.specs.Grammar.{header}
 use Rattle.node_rules.specs.Ciphers.{Ciphers}

@@ -27,7 +27,7 @@ use Rattle.node_rules.specs.Ciphers.{Ciphers}
 use Rattle.node_rules.specs.Frames.{SealedUnit, Sent, Sealed, Up, Down, spelled, arrived}
 use Rattle.node_rules.specs.Memory.{Memory, Coordinator, Node, address_of, node_address}
 use Rattle.node_rules.specs.Plans.{Plan}
-use Rattle.node_rules.specs.Accepting.{accept}
+use Rattle.node_rules.specs.Acceptance.{accept}
 use Rattle.node_rules.specs.Calls as calls
 use Rattle.node_rules.specs.Meters as meters
 use Rattle.node_rules.specs.Coordinators as coordinator_rules
@@ -43,11 +43,11 @@ use Rattle.line_rules.specs.Steps.{tag_of, hearing_step}
 use Rattle.line_rules.specs.Steps.{offered_near, hearing_outcome, note_by, identity, restarts}
 use Rattle.line_laws.specs.Stores.{IsReadable, IsKept}
 use Rattle.line_laws.specs.Owed.{AreOctets, KeepsRanges}
-use Rattle.line_laws.proofs.Keeping.{Left}
+use Rattle.line_laws.proofs.KeptMemory.{Left}
 use Rattle.line_laws.specs.Sizes.{IsMemorySized}
 use Rattle.line_laws.proofs.Nodes.{PlanOk, NodeOk, DidOk, acts_ok, ring_readable}
 use Rattle.line_laws.proofs.NodeCalls.{random_ok, join_ok, leave_ok, send_ok, broke_ok}
-use Rattle.line_laws.proofs.Readings.{held}
+use Rattle.line_laws.proofs.StorableGrants.{held}
 use Rattle.line_laws.proofs.CoordinatorCalls.{accept_ok, accept_failed, accepted_routes, rekey_ok, activate_self_ok, challenge_ok, activate_ok, kick_ok}
 use Rattle.line_laws.proofs.StoreMarks.{accept_is}
 use Rattle.line_laws.proofs.Answered.{acts_answered}

@@ -19,8 +19,8 @@ use Rattle.reach_rules.specs.declared.refusal.ReachDropped.TheVariants as reach_
 use Rattle.node_rules.specs.declared.refusal.Dropped.TheVariants as drops
 use Rattle.reach_rules.specs.Beacons.{begin_scan, choose_agent, hear_discovery}
 use Rattle.reach_rules.specs.Broadcasts.{broadcast}
-use Rattle.reach_rules.specs.PathAsking.{ask_path}
-use Rattle.reach_rules.specs.Receiving.{hear_command}
+use Rattle.reach_rules.specs.PathRequests.{ask_path}
+use Rattle.reach_rules.specs.FurtherReceptions.{hear_command}
 use Rattle.line_events.specs.declared.event.Answer.TheVariants as answers
 use Rattle.line_events.specs.declared.event.Event.{Event}
 use Rattle.line_rules.specs.Answers.{Reception, only}

@@ -8,7 +8,7 @@ use Rattle.std.proofs.lemmas.List.Elements.{All-nil, All-cons, All-head, All-tai
 use Rattle.std.proofs.lemmas.Option.{same_Some}
 use Rattle.std.proofs.lemmas.Slice.Eq.{bytes_eq-Decides}
 use Rattle.plc_base.specs.declared.key.Key.{Key}
-use Rattle.plc_base.specs.declared.key.Rand.{Rand}
+use Rattle.plc_base.specs.declared.key.RandomOctets.{RandomOctets}
 use Rattle.plc_base.specs.declared.tags.PairTag.{PairTag}
 use Rattle.plc_base.specs.declared.tags.PairTag.TheVariants as tags
 use Rattle.group_keys.specs.KeyBook.{same_key}
@@ -107,7 +107,7 @@ flew_none flights octets key all =
 
 -- # Pair tags
 
-rand_of : List ℕ → Rand
+rand_of : List ℕ → RandomOctets
 rand_of octets = record { 0 = octets }
 
 tag_is : (a b : PairTag) → same_tag a b ≡ true → IsSameTag a b

@@ -33,7 +33,7 @@ use Rattle.node_rules.specs.MemoryDrafts.{in_memory, on_station, station_part, w
 use Rattle.node_rules.specs.Coordinators.{with_book_entry}
 use Rattle.node_rules.specs.Laws.{all_put, IsWhole, IsCutOff}
 use Rattle.node_rules.specs.NodeSteps.{acts, stays, left_by}
-use Rattle.node_rules.proofs.Writing.{clean}
+use Rattle.node_rules.proofs.FailedWrites.{clean}
 use Rattle.line_laws.proofs.Planned.{Planned, Refuses, Keeps, Ended}
 use Rattle.line_laws.proofs.Made.{RingWord, Given, Made, Starts, Ranks, Numbers, Tags, Rings, Idles, Loses, Goes, Sends, Waits, Leaves}
 use Rattle.line_laws.proofs.MadeIn.{MadeIn, Begins, Station, OnStation, Remembers, Tags as TagsIn, Enters, Up as UpIn, Down as DownIn}

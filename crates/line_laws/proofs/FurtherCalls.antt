@@ -7,7 +7,7 @@ use Rattle.node_rules.specs.MemoryDrafts.{in_memory}
 use Rattle.reach_rules.specs.declared.refusal.AskRefusal.TheVariants as asks
 use Rattle.reach_rules.specs.declared.refusal.BroadcastRefusal.TheVariants as broadcasts
 use Rattle.reach_rules.specs.Broadcasts.{broadcast, own_broadcast}
-use Rattle.reach_rules.specs.PathAsking.{ask_path}
+use Rattle.reach_rules.specs.PathRequests.{ask_path}
 use Rattle.line_rules.specs.Further.{with_beside}
 use Rattle.line_rules.specs.Worlds.{World, node_at}
 use Rattle.line_laws.specs.FurtherLines.{CallsKeepAll}

@@ -14,7 +14,7 @@ use Rattle.pan_discovery.specs.Messages.{IsDiscovery}
 use Rattle.node_rules.specs.Accepted.{Accepted}
 use Rattle.node_rules.specs.declared.refusal.FrameRefusal.{FrameRefusal}
 use Rattle.node_rules.specs.declared.refusal.FrameRefusal.TheVariants as frames
-use Rattle.node_rules.specs.Accepting.{Accepting, accept, marking}
+use Rattle.node_rules.specs.Acceptance.{Accepting, accept, marking}
 use Rattle.node_rules.specs.Ciphers.{Ciphers, network}
 use Rattle.node_rules.specs.Drafts.{choose as choose_plan, refused}
 use Rattle.node_rules.specs.Frames.{Arrived, arrived}
@@ -67,7 +67,7 @@ use Rattle.line_laws.proofs.OctetRuns.{WorldSpeaks}
 use Rattle.line_laws.proofs.RangeFrames.{IsSent}
 use Rattle.line_laws.proofs.RangeHeard.{SaysShort}
 use Rattle.line_laws.proofs.RangeRuns.{short_at}
-use Rattle.line_laws.proofs.Readings.{network_ranges}
+use Rattle.line_laws.proofs.StorableGrants.{network_ranges}
 use Rattle.line_laws.proofs.StoreMarks.{Accepts, Marked, Plain, Turned, accept_is}
 use Rattle.line_laws.proofs.StepKinds as step_kinds
 use Rattle.line_laws.proofs.StepKinds.{IsStep}

@@ -12,13 +12,13 @@ use Rattle.plc_base.specs.declared.keeper.BadStore.{BadStore}
 use Rattle.plc_base.specs.declared.key.Key.{Key}
 use Rattle.mac_frames.specs.declared.fault.FrameFaultKind.{FrameFaultKind}
 use Rattle.mac_frames.specs.declared.fault.FrameFaultKind.TheVariants.{Short, Long, Kind}
-use Rattle.mac_frames.specs.Reading.{head_in, body_in}
+use Rattle.mac_frames.specs.Reader.{head_in, body_in}
 use Rattle.mac_frames.specs.Faults.{bits, fields_fault, frame_fault, low_fault, type_fault}
 use Rattle.node_rules.specs.Accepted.{Accepted}
 use Rattle.node_rules.specs.declared.heard.Reply.{Reply}
 use Rattle.node_rules.specs.declared.refusal.FrameRefusal.{FrameRefusal}
 use Rattle.node_rules.specs.declared.refusal.FrameRefusal.TheVariants as frames
-use Rattle.node_rules.specs.Accepting.{accept}
+use Rattle.node_rules.specs.Acceptance.{accept}
 use Rattle.node_rules.specs.Ciphers.{Ciphers}
 use Rattle.node_rules.specs.Frames.{Arrived, arrived, arrived_with}
 use Rattle.node_rules.specs.Memory.{Memory, Node, node_address}
@@ -28,7 +28,7 @@ use Rattle.node_rules.specs.Replies.{reply_among}
 use Rattle.reach_rules.specs.Beacons.{is_discovery, frame_type}
 use Rattle.reach_rules.specs.CheckedReplies.{message_of}
 use Rattle.reach_rules.specs.ReachingNodes.{Beside, restarted, tick_beside}
-use Rattle.reach_rules.specs.Receiving.{NeighbourCommand, command_of}
+use Rattle.reach_rules.specs.FurtherReceptions.{NeighbourCommand, command_of}
 use Rattle.line_events.specs.declared.event.Event.{Event}
 use Rattle.line_events.specs.declared.event.Event.TheVariants as events
 use Rattle.line_events.specs.declared.event.Answer.TheVariants as answers
@@ -262,7 +262,7 @@ module _ (ciphers : Ciphers) (w : World) where
   further_step_is (events.Counter node value) e = Old (events.Counter node value) _ (step_is ciphers w (events.Counter node value) e)
   further_step_is (events.Number node value) e = Old (events.Number node value) _ (step_is ciphers w (events.Number node value) e)
   further_step_is (events.Allow node) e = Old (events.Allow node) _ (step_is ciphers w (events.Allow node) e)
-  further_step_is (events.Rand node value) e = Old (events.Rand node value) _ (step_is ciphers w (events.Rand node value) e)
+  further_step_is (events.RandomOctets node value) e = Old (events.RandomOctets node value) _ (step_is ciphers w (events.RandomOctets node value) e)
   further_step_is (events.Join node agent) e = Old (events.Join node agent) _ (step_is ciphers w (events.Join node agent) e)
   further_step_is (events.Leave node) e = Old (events.Leave node) _ (step_is ciphers w (events.Leave node) e)
   further_step_is (events.Send from to datagram) e = Old (events.Send from to datagram) _ (step_is ciphers w (events.Send from to datagram) e)

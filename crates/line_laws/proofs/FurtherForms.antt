@@ -32,18 +32,18 @@ use Rattle.reach_rules.specs.ReachingNodes.{Beside, Reaching, in_reach, reach_en
 use Rattle.reach_rules.specs.CheckedReplies.{hear_acknowledgement, hear_acknowledgement_in}
 use Rattle.reach_rules.specs.Broadcasts.{broadcast, broadcast_from, broadcast_ends, broadcast_fault, datagram_fault, own_broadcast, with_broadcast_number}
 use Rattle.reach_rules.specs.Broadcasts.{with_broadcast_mark, hop_less, goes_further, admits_broadcast, hear_broadcast, hear_broadcast_in}
-use Rattle.reach_rules.specs.PathAsking.{ask_path, asks_from, asks_by, ask_ends, follows_path, hear_path, hear_path_in, next_toward, path_word, send_path}
-use Rattle.reach_rules.specs.Receiving.{NeighbourCommand, hear_command, hear_command_at}
+use Rattle.reach_rules.specs.PathRequests.{ask_path, asks_from, asks_by, ask_ends, follows_path, hear_path, hear_path_in, next_toward, path_word, send_path}
+use Rattle.reach_rules.specs.FurtherReceptions.{NeighbourCommand, hear_command, hear_command_at}
 use Rattle.neighbour_checks.specs.Acks.{ack_in}
 use Rattle.neighbour_checks.specs.Neighbours.{is_awaited, acked_after}
-use Rattle.broadcast_log.specs.Reading.{broadcast_in}
+use Rattle.broadcast_log.specs.Reader.{broadcast_in}
 use Rattle.broadcast_log.specs.OriginMarks.{keep_write}
 use Rattle.path_requests.specs.declared.message.PathMessage.{PathMessage}
 use Rattle.path_requests.specs.declared.step.PathStep.{PathStep}
 use Rattle.path_requests.specs.declared.step.PathStep.TheVariants.{Forward, Answer, Done}
 use Rattle.path_requests.specs.declared.step.PathRefusal.{PathRefusal}
-use Rattle.path_requests.specs.Reading.{path_in}
-use Rattle.path_requests.specs.Taking.{taken}
+use Rattle.path_requests.specs.Reader.{path_in}
+use Rattle.path_requests.specs.PathSteps.{taken}
 use Rattle.node_rules.specs.declared.refusal.Dropped.TheVariants as drops_by
 use Rattle.line_rules.specs.Further.{of_memory, with_beside}
 use Rattle.line_laws.specs.Later.{IsOfLog}
@@ -52,7 +52,7 @@ use Rattle.line_laws.specs.Stores.{IsKept}
 use Rattle.line_laws.proofs.Beside.{low_when}
 use Rattle.line_laws.proofs.Frontiers.{High-append, reserve_high, sealed_numbered}
 use Rattle.line_laws.proofs.IssueWords.{Each}
-use Rattle.line_laws.proofs.Keeping.{leads_append}
+use Rattle.line_laws.proofs.KeptMemory.{leads_append}
 use Rattle.line_laws.proofs.LaterStores.{log_leads, log_high, log_marks}
 use Rattle.line_laws.proofs.MarkWrites as marks
 use Rattle.line_laws.proofs.Nodes.{PlanOk, sealed_few}

@@ -10,7 +10,7 @@ use Rattle.plc_base.specs.declared.address.Eui.{Eui}
 use Rattle.group_keys.specs.KeyBook as books
 use Rattle.pan_discovery.specs.declared.message.Discovery.{Discovery}
 use Rattle.node_rules.specs.declared.refusal.FrameRefusal.TheVariants as frames
-use Rattle.node_rules.specs.Accepting.{accept}
+use Rattle.node_rules.specs.Acceptance.{accept}
 use Rattle.node_rules.specs.Ciphers.{Ciphers}
 use Rattle.node_rules.specs.Drafts.{UnsealedUnit}
 use Rattle.node_rules.specs.Frames.{arrived}
@@ -46,7 +46,7 @@ use Rattle.line_laws.proofs.FurtherStepKinds.{IsLineStep, Moves, line_follows, l
 use Rattle.line_laws.proofs.FurtherStepKinds.{Known, Opens, Anew, After, Unsends, Unbelieves, Chooses, Stays, Carries, Flies, Besides, Turns}
 use Rattle.line_laws.proofs.Homes.{at_length}
 use Rattle.line_laws.proofs.IssueCalls.{accept_quietly}
-use Rattle.line_laws.proofs.Keeping.{Leads, Left, carried}
+use Rattle.line_laws.proofs.KeptMemory.{Leads, Left, carried}
 use Rattle.line_laws.proofs.MarkSteps.{FollowsIn}
 use Rattle.line_laws.proofs.ShutSteps.{event_shut, other_shut}
 use Rattle.line_laws.proofs.ShutSteps.{ShutBy as ShutBefore}

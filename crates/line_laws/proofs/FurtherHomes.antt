@@ -19,7 +19,7 @@ use Rattle.line_laws.proofs.FurtherStates.{LeadsTo, Sound, Stands, sound_on}
 use Rattle.line_laws.proofs.FurtherStepKinds.{any_speaks, line_follows, line_step_is}
 use Rattle.line_laws.proofs.LiveRuns.{none_falls, some_book}
 use Rattle.line_laws.proofs.MarkSteps.{FollowsIn}
-use Rattle.line_laws.proofs.Readings.{network_ranges}
+use Rattle.line_laws.proofs.StorableGrants.{network_ranges}
 
 -- # One event
 

@@ -8,7 +8,7 @@ use Rattle.plc_base.specs.declared.key.Key.{Key}
 use Rattle.node_rules.specs.Accepted.{Accepted}
 use Rattle.node_rules.specs.declared.refusal.FrameRefusal.{FrameRefusal}
 use Rattle.node_rules.specs.declared.refusal.FrameRefusal.TheVariants as frames
-use Rattle.node_rules.specs.Accepting.{accept}
+use Rattle.node_rules.specs.Acceptance.{accept}
 use Rattle.node_rules.specs.Ciphers.{Ciphers}
 use Rattle.node_rules.specs.Drafts.{UnsealedUnit, choose as choose_plan, refused}
 use Rattle.node_rules.specs.Frames.{arrived}

@@ -13,12 +13,12 @@ use Rattle.reach_rules.specs.declared.refusal.AskRefusal.TheVariants as asks
 use Rattle.node_rules.specs.MemoryDrafts.{in_memory}
 use Rattle.node_rules.specs.declared.refusal.Dropped.TheVariants as drops
 use Rattle.reach_rules.specs.declared.refusal.ReachDropped.TheVariants as reach_drops
-use Rattle.reach_rules.specs.Receiving.{NeighbourCommand, hear_command}
+use Rattle.reach_rules.specs.FurtherReceptions.{NeighbourCommand, hear_command}
 use Rattle.reach_rules.specs.ReachingNodes.{Beside, Reaching}
-use Rattle.pan_discovery.specs.Reading.{discovery_in}
+use Rattle.pan_discovery.specs.Reader.{discovery_in}
 use Rattle.reach_rules.specs.Beacons.{Discovering, begin_scan, hear_discovery}
 use Rattle.reach_rules.specs.Broadcasts.{broadcast}
-use Rattle.reach_rules.specs.PathAsking.{ask_path}
+use Rattle.reach_rules.specs.PathRequests.{ask_path}
 use Rattle.line_rules.specs.Answers.{discovery_word, scan_word}
 use Rattle.line_events.specs.declared.event.Answer.{Answer}
 use Rattle.line_rules.specs.Further.{beside_at, commanded, broadcasts_by, asks_by, scans_by, discovers_by, has_discovered}

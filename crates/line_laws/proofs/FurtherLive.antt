@@ -4,7 +4,7 @@ use Rattle.std.specs.Prelude.{All, if◌then◌else◌, is_some, slice_get, slic
 use Rattle.std.specs.Option.{option_map_or}
 use Rattle.store_tables.proofs.SlotTables.{slice_get-set}
 use Rattle.plc_base.specs.declared.key.Key.{Key}
-use Rattle.mac_frames.specs.Reading.{head_in}
+use Rattle.mac_frames.specs.Reader.{head_in}
 use Rattle.mac_frames.specs.declared.head.MacHead.{MacHead}
 use Rattle.group_keys.specs.KeyBook as books
 use Rattle.node_rules.specs.Accepted.{Accepted}
@@ -21,7 +21,7 @@ use Rattle.reach_rules.specs.declared.heard.CommandHeard.{CommandHeard}
 use Rattle.reach_rules.specs.declared.refusal.ReachDropped.{ReachDropped}
 use Rattle.reach_rules.specs.declared.refusal.ReachDropped.TheVariants as reach_drops
 use Rattle.reach_rules.specs.Beacons.{is_discovery}
-use Rattle.reach_rules.specs.Receiving.{NeighbourCommand, command_of, hear_command}
+use Rattle.reach_rules.specs.FurtherReceptions.{NeighbourCommand, command_of, hear_command}
 use Rattle.line_events.specs.declared.event.StepFault.TheVariants as faults
 use Rattle.line_events.specs.declared.event.Event.{Event}
 use Rattle.line_rules.specs.Answers.{Reception}

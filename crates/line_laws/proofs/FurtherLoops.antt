@@ -5,7 +5,7 @@ use Rattle.std.specs.Prelude.{All}
 use Rattle.std.proofs.lemmas.List.Elements.{All-head, All-tail}
 use Rattle.pan_discovery.specs.declared.message.Discovery.{Discovery}
 use Rattle.node_rules.specs.declared.refusal.FrameRefusal.TheVariants as frames
-use Rattle.node_rules.specs.Accepting.{accept}
+use Rattle.node_rules.specs.Acceptance.{accept}
 use Rattle.node_rules.specs.Ciphers.{Ciphers, network}
 use Rattle.node_rules.specs.Drafts.{UnsealedUnit}
 use Rattle.node_rules.specs.Frames.{arrived}
@@ -51,7 +51,7 @@ use Rattle.line_laws.proofs.IssueWorlds.{same_keyed}
 use Rattle.line_laws.proofs.LoopFree.{no_loop}
 use Rattle.line_laws.proofs.LoopRuns.{HoldsBy, grow_homes, holds_by, line_depot_fits, start_routed}
 use Rattle.line_laws.proofs.MarkSteps.{after_nodes}
-use Rattle.line_laws.proofs.Readings.{network_ranges}
+use Rattle.line_laws.proofs.StorableGrants.{network_ranges}
 use Rattle.line_laws.proofs.StepsOk.{ran_ok as steps_ran_ok}
 
 -- # Growth

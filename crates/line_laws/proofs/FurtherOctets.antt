@@ -20,7 +20,7 @@ use Rattle.path_requests.specs.declared.step.PathStep.TheVariants.{Forward, Answ
 use Rattle.path_requests.specs.declared.step.PathRefusal.{PathRefusal}
 use Rattle.path_requests.specs.declared.step.PathRefusal.TheVariants as refusals
 use Rattle.path_requests.specs.Messages.{IsPath, path_spelling}
-use Rattle.path_requests.specs.Taking.{ask_led, hop, taken, tell_led, tell_taken}
+use Rattle.path_requests.specs.PathSteps.{ask_led, hop, taken, tell_led, tell_taken}
 use Rattle.path_requests.specs.Walks.{ends_with, has, has_at, walk_octets}
 use Rattle.line_laws.proofs.FurtherForms.{SendsOn}
 use Rattle.std.specs.Option.{option_map_or}
@@ -34,14 +34,14 @@ use Rattle.pan_discovery.specs.declared.message.Discovery.{Discovery}
 use Rattle.pan_discovery.specs.declared.message.Discovery.TheVariants as requests
 use Rattle.pan_discovery.specs.History.{Scanned}
 use Rattle.pan_discovery.specs.Messages.{discovery_spelling, role}
-use Rattle.pan_discovery.specs.Reading.{discovery_in}
+use Rattle.pan_discovery.specs.Reader.{discovery_in}
 use Rattle.pan_discovery.specs.Agents.{kth_of}
 use Rattle.path_requests.proofs.Readings.{paths_spelled}
 use Rattle.broadcast_log.proofs.Spellings.{broadcast_spelled}
 use Rattle.node_rules.specs.declared.heard.Reply.{Reply}
 use Rattle.node_rules.specs.declared.refusal.FrameRefusal.TheVariants as frames
 use Rattle.node_rules.specs.declared.refusal.LocalRefusal.TheVariants as locals
-use Rattle.node_rules.specs.Accepting.{accept}
+use Rattle.node_rules.specs.Acceptance.{accept}
 use Rattle.node_rules.specs.Ciphers.{network}
 use Rattle.node_rules.specs.Drafts.{UnsealedUnit, alone, choose as choose_plan, counters_left, empty_draft, goes, refused, sealed, sealing}
 use Rattle.node_rules.specs.Frames.{arrived, to_all}
@@ -59,7 +59,7 @@ use Rattle.reach_rules.specs.Beacons.{takes_beacon}
 use Rattle.reach_rules.specs.Beacons.{takes_beacons, stays as stays_scan}
 use Rattle.reach_rules.specs.Broadcasts.{hop_less, own_broadcast}
 use Rattle.reach_rules.specs.CheckedReplies.{acknowledges}
-use Rattle.reach_rules.specs.PathAsking.{next_toward}
+use Rattle.reach_rules.specs.PathRequests.{next_toward}
 use Rattle.reach_rules.specs.ReachingNodes.{Beside}
 use Rattle.line_events.specs.declared.event.Answer.TheVariants as answers
 use Rattle.line_events.specs.declared.event.Event.{Event}
@@ -85,8 +85,8 @@ use Rattle.line_laws.proofs.Nodes.{ring_readable}
 use Rattle.line_laws.proofs.OctetCalls.{NodeSpeaks, accept_speaks, acts_speaks}
 use Rattle.line_laws.proofs.OctetDrafts.{MemorySpeaks, OutSpeaks, PlanSpeaks, SentOctets, sealed_speak}
 use Rattle.line_laws.proofs.OctetRuns.{SpeaksIn, WorldSpeaks, event_speaks, pair_of, start_speaks, after_speaks}
-use Rattle.line_laws.proofs.Readings.{network_ranges}
-use Rattle.line_laws.proofs.Running.{start_ok}
+use Rattle.line_laws.proofs.StorableGrants.{network_ranges}
+use Rattle.line_laws.proofs.EveryRun.{start_ok}
 use Rattle.line_laws.proofs.StepsOk.{ran_ok as steps_ran_ok}
 use Rattle.line_laws.proofs.Worlds.{at_place}
 

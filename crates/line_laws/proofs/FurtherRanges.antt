@@ -29,7 +29,7 @@ use Rattle.pan_discovery.specs.declared.message.Discovery.{Discovery}
 use Rattle.pan_discovery.specs.declared.message.Discovery.TheVariants as discoveries
 use Rattle.pan_discovery.specs.History.{Scanned}
 use Rattle.pan_discovery.specs.Messages.{IsDiscovery}
-use Rattle.pan_discovery.specs.Reading.{discovery_in}
+use Rattle.pan_discovery.specs.Reader.{discovery_in}
 use Rattle.path_requests.specs.declared.message.PathMessage.{PathMessage}
 use Rattle.path_requests.specs.declared.message.PathMessage.TheVariants.{Ask, Tell}
 use Rattle.path_requests.specs.declared.step.PathStep.{PathStep}
@@ -37,7 +37,7 @@ use Rattle.path_requests.specs.declared.step.PathStep.TheVariants.{Forward, Answ
 use Rattle.path_requests.specs.declared.step.PathRefusal.{PathRefusal}
 use Rattle.path_requests.specs.declared.step.PathRefusal.TheVariants as refusals
 use Rattle.path_requests.specs.Messages.{IsPath, path_spelling}
-use Rattle.path_requests.specs.Taking.{ask_led, hop, taken, tell_led, tell_taken}
+use Rattle.path_requests.specs.PathSteps.{ask_led, hop, taken, tell_led, tell_taken}
 use Rattle.path_requests.specs.Walks.{ends_with, has, has_at, walk_octets}
 use Rattle.path_requests.proofs.Readings.{paths_spelled}
 use Rattle.node_rules.specs.Accepted.{Accepted}
@@ -48,12 +48,12 @@ use Rattle.node_rules.specs.declared.refusal.Dropped.TheVariants as drops
 use Rattle.node_rules.specs.declared.refusal.FrameRefusal.{FrameRefusal}
 use Rattle.node_rules.specs.declared.refusal.FrameRefusal.TheVariants as frames
 use Rattle.node_rules.specs.declared.refusal.LocalRefusal.TheVariants as locals
-use Rattle.node_rules.specs.Accepting.{Accepting, accept, marking}
+use Rattle.node_rules.specs.Acceptance.{Accepting, accept, marking}
 use Rattle.node_rules.specs.Ciphers.{network}
 use Rattle.node_rules.specs.Coordinators as coordinator_rules
 use Rattle.node_rules.specs.Drafts.{alone, choose as choose_plan, counters_left, empty_draft, goes, refused, sealed, sealing}
 use Rattle.node_rules.specs.Frames.{arrived, to_all}
-use Rattle.node_rules.specs.Hearing.{hear}
+use Rattle.node_rules.specs.HearingRules.{hear}
 use Rattle.node_rules.specs.Memory.{StationMemory, Memory, Node, Role, Coordinator, Meter, address_of, next_hop, station_route}
 use Rattle.node_rules.specs.MemoryDrafts.{in_memory, with_station}
 use Rattle.node_rules.specs.Meters as meters
@@ -68,13 +68,13 @@ use Rattle.reach_rules.specs.Beacons.{takes_beacon}
 use Rattle.reach_rules.specs.Beacons.{takes_beacons, stays as stays_scan}
 use Rattle.reach_rules.specs.Broadcasts.{datagram_fault, hop_less, own_broadcast}
 use Rattle.reach_rules.specs.CheckedReplies.{acknowledges, message_of}
-use Rattle.reach_rules.specs.PathAsking.{next_toward}
+use Rattle.reach_rules.specs.PathRequests.{next_toward}
 use Rattle.reach_rules.specs.ReachingNodes.{Beside}
-use Rattle.reach_rules.specs.Receiving.{NeighbourCommand, command_of, command_on, command_with}
+use Rattle.reach_rules.specs.FurtherReceptions.{NeighbourCommand, command_of, command_on, command_with}
 use Rattle.pan_discovery.specs.Agents.{kth_of}
 use Rattle.mesh_header.specs.declared.unit.Unit.{Unit as MeshUnit}
 use Rattle.mesh_header.specs.declared.unit.Unit.TheVariants as units
-use Rattle.mesh_header.specs.Reading.{unit_in}
+use Rattle.mesh_header.specs.Reader.{unit_in}
 use Rattle.line_events.specs.declared.event.Answer.{Answer as Word}
 use Rattle.line_events.specs.declared.event.Answer.TheVariants as answers
 use Rattle.line_events.specs.declared.event.Event.{Event}
@@ -114,7 +114,7 @@ use Rattle.line_laws.proofs.RangeFrames.{IsSent}
 use Rattle.line_laws.proofs.RangeOrders.{join_ranged}
 use Rattle.line_laws.proofs.RangePlans.{DidRanged, RangeOk, acts_ranged}
 use Rattle.line_laws.proofs.RangeRuns.{event_ranged, short_at, after_ranged}
-use Rattle.line_laws.proofs.Readings.{network_ranges}
+use Rattle.line_laws.proofs.StorableGrants.{network_ranges}
 use Rattle.line_laws.proofs.StoreMarks.{Accepts, IsPlain, Marked, Plain, Turned, accept_is}
 use Rattle.line_laws.proofs.Worlds.{at_place}
 

@@ -30,9 +30,9 @@ use Rattle.line_laws.proofs.FurtherStepKinds.{line_step_is}
 use Rattle.line_laws.proofs.IssueWorlds.{after_here}
 use Rattle.line_laws.proofs.NetworkSizes.{EntrySized, world_within}
 use Rattle.line_laws.proofs.OctetRuns.{SpeaksIn, WorldSpeaks, start_speaks}
-use Rattle.line_laws.proofs.Readings.{network_ranges}
+use Rattle.line_laws.proofs.StorableGrants.{network_ranges}
 use Rattle.line_laws.proofs.RestartRoutes.{no_routes}
-use Rattle.line_laws.proofs.Running.{restart_answers, start_ok}
+use Rattle.line_laws.proofs.EveryRun.{restart_answers, start_ok}
 use Rattle.line_laws.proofs.ShutSteps.{kicked_out}
 use Rattle.line_laws.proofs.Worlds.{at_place}
 

@@ -13,7 +13,7 @@ use Rattle.pan_discovery.specs.Messages.{IsDiscovery}
 use Rattle.node_rules.specs.Accepted.{Accepted}
 use Rattle.node_rules.specs.declared.refusal.FrameRefusal.{FrameRefusal}
 use Rattle.node_rules.specs.declared.refusal.FrameRefusal.TheVariants as frames
-use Rattle.node_rules.specs.Accepting.{accept}
+use Rattle.node_rules.specs.Acceptance.{accept}
 use Rattle.node_rules.specs.Ciphers.{network}
 use Rattle.node_rules.specs.Drafts.{choose as choose_plan, refused}
 use Rattle.node_rules.specs.Frames.{arrived}
@@ -60,7 +60,7 @@ use Rattle.line_laws.proofs.RankCalls.{accept_ranks, join_ranks}
 use Rattle.line_laws.proofs.RankFold.{IsAt}
 use Rattle.line_laws.proofs.RankPlans.{NodeRanks, PlanRanks, acts_ranks, resting_ranks, same_ranks}
 use Rattle.line_laws.proofs.RankSaid.{FrameBacked}
-use Rattle.line_laws.proofs.Readings.{network_ranges}
+use Rattle.line_laws.proofs.StorableGrants.{network_ranges}
 use Rattle.line_laws.proofs.RouteNodes.{acts_memory}
 use Rattle.line_laws.proofs.RouteParts.{From, Reached, flight_later, nearer_later, reach, after_step}
 use Rattle.line_laws.proofs.RouteSteps.{Fails, StepHolds, Taken, counts_hold, event_holds}

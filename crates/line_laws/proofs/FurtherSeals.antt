@@ -30,7 +30,7 @@ use Rattle.line_laws.proofs.CustodyTrue.{SentIsOf}
 use Rattle.line_laws.proofs.FurtherForms.{IsFurther, Rests, Goes, counted_on}
 use Rattle.line_laws.proofs.IssueCalls.{Quietly}
 use Rattle.line_laws.proofs.IssueWords.{Each, each_append}
-use Rattle.line_laws.proofs.Keeping.{Leads, leads_append, leads_beside}
+use Rattle.line_laws.proofs.KeptMemory.{Leads, leads_append, leads_beside}
 use Rattle.line_laws.proofs.LaterSeals.{goes_beside, no_route, sealed_true, sealed_weighs, sealed_backed}
 use Rattle.line_laws.proofs.LaterStores.{log_away, log_grown, log_ranks, log_rings}
 use Rattle.line_laws.proofs.OctetDrafts.{OutSpeaks, SentOctets, sealed_speak}

@@ -32,8 +32,8 @@ use Rattle.line_laws.proofs.IssuedNamed.{StepNamed}
 use Rattle.line_laws.proofs.KeysStood.{IssuedBy}
 use Rattle.line_laws.proofs.OctetRuns.{SpeaksIn, WorldSpeaks, start_speaks}
 use Rattle.line_laws.proofs.RangeRuns.{start_ranged}
-use Rattle.line_laws.proofs.Readings.{network_ranges}
-use Rattle.line_laws.proofs.Running.{start_ok}
+use Rattle.line_laws.proofs.StorableGrants.{network_ranges}
+use Rattle.line_laws.proofs.EveryRun.{start_ok}
 
 -- What holds of a world that was reached, forged or not.
 pub record Stands (w : World) : Type 0 where

@@ -14,7 +14,7 @@ use Rattle.node_rules.specs.declared.refusal.FrameRefusal.{FrameRefusal}
 use Rattle.node_rules.specs.declared.refusal.FrameRefusal.TheVariants as frames
 use Rattle.node_rules.specs.declared.refusal.LocalRefusal.{LocalRefusal}
 use Rattle.node_rules.specs.declared.refusal.LocalRefusal.TheVariants as locals
-use Rattle.node_rules.specs.Accepting.{accept}
+use Rattle.node_rules.specs.Acceptance.{accept}
 use Rattle.node_rules.specs.Ciphers.{Ciphers}
 use Rattle.node_rules.specs.Meters as meters
 use Rattle.node_rules.specs.Frames.{arrived}
@@ -31,9 +31,9 @@ use Rattle.reach_rules.specs.declared.refusal.ChooseRefusal.{ChooseRefusal}
 use Rattle.reach_rules.specs.Beacons.{ChosenAgent, Discovering, begin_scan, choose_agent, hear_discovery, is_discovery}
 use Rattle.reach_rules.specs.Broadcasts.{broadcast}
 use Rattle.reach_rules.specs.CheckedReplies.{acknowledges, message_of}
-use Rattle.reach_rules.specs.PathAsking.{ask_path}
+use Rattle.reach_rules.specs.PathRequests.{ask_path}
 use Rattle.reach_rules.specs.ReachingNodes.{Beside, restarted, tick_beside}
-use Rattle.reach_rules.specs.Receiving.{NeighbourCommand, command_of, hear_command as hear_neighbours}
+use Rattle.reach_rules.specs.FurtherReceptions.{NeighbourCommand, command_of, hear_command as hear_neighbours}
 use Rattle.line_events.specs.declared.event.Answer.{Answer}
 use Rattle.line_events.specs.declared.event.Answer.TheVariants as answers
 use Rattle.line_events.specs.declared.event.Event.{Event}
@@ -61,7 +61,7 @@ use Rattle.line_laws.proofs.Answered.{acts_answered}
 use Rattle.line_laws.proofs.CoordinatorCalls.{accept_failed, accept_ok, accepted_routes}
 use Rattle.line_laws.proofs.FurtherForms.{AnyUnits, IsFurther, Goes, Rests, further_ok}
 use Rattle.line_laws.proofs.Nodes.{DidOk, acts_ok, ring_readable}
-use Rattle.node_rules.proofs.Writing.{clean}
+use Rattle.node_rules.proofs.FailedWrites.{clean}
 use Rattle.node_rules.specs.Laws.{IsCutOff, IsWhole}
 use Rattle.line_laws.proofs.StoreMarks.{accept_is}
 use Rattle.line_laws.proofs.Worlds.{at_place, counts_ok, ok_after, within as place_within}
@@ -71,7 +71,7 @@ use Rattle.node_rules.specs.Drafts.{UnsealedUnit}
 use Rattle.line_rules.specs.Further.{has_discovered, scanning}
 use Rattle.line_rules.specs.Answers.{discovery_word, scan_word}
 use Rattle.line_rules.specs.Further.{beacon_taken}
-use Rattle.pan_discovery.specs.Reading.{discovery_in}
+use Rattle.pan_discovery.specs.Reader.{discovery_in}
 use Rattle.std.proofs.lemmas.Option.{same_Some}
 use Rattle.pan_discovery.specs.History.{Scanned, begun}
 use Rattle.reach_rules.specs.Beacons.{stays as stays_scan}
@@ -129,7 +129,7 @@ pub record IsSilent (t : Trace) : Type 0 where
   pub made : t.made ≡ []
   pub opened : t.opened ≡ []
 
--- The one event is told as the other, but for its answer, its flights and what is told of further reach.
+-- The one event is reported as the other, but for its answer, its flights and what is reported of further reach.
 pub record SaysTheSame (s t : Trace) : Type 0 where
   pub forged : t.happenings.forged ≡ s.happenings.forged
   pub up : t.happenings.up ≡ s.happenings.up
@@ -559,7 +559,7 @@ module _ (U : List UnsealedUnit → Type 0) (D : Discovery → Type 0) (ciphers 
   line_step_by (events.Counter node value) e = Known (events.Counter node value) _ (old (events.Counter node value) e)
   line_step_by (events.Number node value) e = Known (events.Number node value) _ (old (events.Number node value) e)
   line_step_by (events.Allow node) e = Known (events.Allow node) _ (old (events.Allow node) e)
-  line_step_by (events.Rand node value) e = Known (events.Rand node value) _ (old (events.Rand node value) e)
+  line_step_by (events.RandomOctets node value) e = Known (events.RandomOctets node value) _ (old (events.RandomOctets node value) e)
   line_step_by (events.Join node agent) e = Known (events.Join node agent) _ (old (events.Join node agent) e)
   line_step_by (events.Leave node) e = Known (events.Leave node) _ (old (events.Leave node) e)
   line_step_by (events.Send from to datagram) e = Known (events.Send from to datagram) _ (old (events.Send from to datagram) e)

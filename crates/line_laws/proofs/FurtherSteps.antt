@@ -19,10 +19,10 @@ use Rattle.broadcast_log.specs.declared.fault.LogFault.TheVariants as log_faults
 use Rattle.broadcast_log.specs.Laws.{IsLogIn}
 use Rattle.broadcast_log.specs.Log.{Log}
 use Rattle.broadcast_log.specs.OriginMarks.{keep_write, room_for}
-use Rattle.broadcast_log.proofs.Reopening.{reopens}
+use Rattle.broadcast_log.proofs.ReopenedLogs.{reopens}
 use Rattle.mesh_header.specs.declared.unit.Unit.{Unit as MeshUnit}
 use Rattle.mesh_header.specs.declared.unit.Unit.TheVariants as units
-use Rattle.mesh_header.specs.Reading.{unit_in}
+use Rattle.mesh_header.specs.Reader.{unit_in}
 use Rattle.loadng_messages.specs.declared.message.Message.{Message}
 use Rattle.loadng_messages.specs.declared.message.Message.TheVariants.{Rreq, Rrep, Rerr}
 use Rattle.neighbour_checks.specs.Acks.{ack_spelling}
@@ -36,13 +36,13 @@ use Rattle.node_rules.specs.declared.refusal.FrameRefusal.{FrameRefusal}
 use Rattle.node_rules.specs.declared.refusal.FrameRefusal.TheVariants as frames
 use Rattle.node_rules.specs.declared.refusal.LocalRefusal.{LocalRefusal}
 use Rattle.node_rules.specs.declared.refusal.LocalRefusal.TheVariants as locals
-use Rattle.node_rules.specs.Accepting.{accept}
+use Rattle.node_rules.specs.Acceptance.{accept}
 use Rattle.node_rules.specs.Ciphers.{Ciphers}
 use Rattle.node_rules.specs.Coordinators as coordinator_rules
 use Rattle.node_rules.specs.Meters as meters
 use Rattle.node_rules.specs.Drafts.{alone, choose as choose_plan, counters_left, empty_draft, goes, refused, sealed, sealing}
 use Rattle.node_rules.specs.Frames.{arrived}
-use Rattle.node_rules.specs.Hearing.{Hearing, hear, hear_sealed, drop_it, hear_unit_in}
+use Rattle.node_rules.specs.HearingRules.{Hearing, hear, hear_sealed, drop_it, hear_unit_in}
 use Rattle.node_rules.specs.Memory.{StationMemory, Memory, Node, Role, Coordinator, Meter, address_of, node_address}
 use Rattle.node_rules.specs.MemoryDrafts.{in_memory, unread, with_station}
 use Rattle.node_rules.specs.Neighbours.{local_draft, local_ends}
@@ -59,9 +59,9 @@ use Rattle.pan_discovery.specs.Agents.{kth_of}
 use Rattle.reach_rules.specs.Beacons.{ChosenAgent, begin_scan, choose_agent, choosing_ends, hear_discovery, is_discovery, joins_by}
 use Rattle.reach_rules.specs.Broadcasts.{broadcast, broadcast_fault, mark_fault}
 use Rattle.reach_rules.specs.CheckedReplies.{acknowledges, message_of}
-use Rattle.reach_rules.specs.PathAsking.{ask_path}
+use Rattle.reach_rules.specs.PathRequests.{ask_path}
 use Rattle.reach_rules.specs.ReachingNodes.{Beside, restarted, restarted_by, tick_beside}
-use Rattle.reach_rules.specs.Receiving.{NeighbourCommand, command_of, command_on, command_with, hear_command as hear_neighbours}
+use Rattle.reach_rules.specs.FurtherReceptions.{NeighbourCommand, command_of, command_on, command_with, hear_command as hear_neighbours}
 use Rattle.line_events.specs.declared.event.Answer.{Answer}
 use Rattle.line_events.specs.declared.event.Answer.TheVariants as answers
 use Rattle.line_events.specs.declared.event.Event.{Event}
@@ -96,7 +96,7 @@ use Rattle.line_laws.proofs.FurtherLines.{calls_keep, commands_keep, discovery_k
 use Rattle.line_laws.proofs.MarkOrder.{raised_same, raised_trans}
 use Rattle.line_laws.proofs.NodeCalls.{RoutesFit, join_ok}
 use Rattle.line_laws.proofs.Nodes.{DidOk, PlanOk, acts_ok, node_kept, ring_readable, sealed_few}
-use Rattle.node_rules.proofs.Writing.{clean}
+use Rattle.node_rules.proofs.FailedWrites.{clean}
 use Rattle.node_rules.specs.Laws.{IsCutOff, IsWhole}
 use Rattle.line_laws.proofs.Quiet.{acts_quiet, accept_quiet}
 use Rattle.line_laws.proofs.NodesOk as steps_below
@@ -640,7 +640,7 @@ module _ (ciphers : Ciphers) (fits : KeepsRanges ciphers) (w : World) (ok : Worl
   line_good (events.Counter node value) e = steps.step_good ciphers fits w ok flown (events.Counter node value) e
   line_good (events.Number node value) e = steps.step_good ciphers fits w ok flown (events.Number node value) e
   line_good (events.Allow node) e = steps.step_good ciphers fits w ok flown (events.Allow node) e
-  line_good (events.Rand node value) e = steps.step_good ciphers fits w ok flown (events.Rand node value) e
+  line_good (events.RandomOctets node value) e = steps.step_good ciphers fits w ok flown (events.RandomOctets node value) e
   line_good (events.Join node agent) e = steps.step_good ciphers fits w ok flown (events.Join node agent) e
   line_good (events.Leave node) e = steps.step_good ciphers fits w ok flown (events.Leave node) e
   line_good (events.Send from to datagram) e = steps.step_good ciphers fits w ok flown (events.Send from to datagram) e

@@ -15,7 +15,7 @@ use Rattle.node_rules.specs.Memory.{Memory, Node}
 use Rattle.node_rules.specs.Meters as meters
 use Rattle.node_rules.specs.NodeSteps.{NodeStep, acts, left_by, stays}
 use Rattle.node_rules.specs.Plans.{Plan, carry_out, resting}
-use Rattle.node_rules.specs.StoreReading.{tag_in}
+use Rattle.node_rules.specs.RestartStates.{tag_in}
 use Rattle.pan_discovery.specs.Agents.{kth_of}
 use Rattle.reach_rules.specs.declared.refusal.ChooseRefusal.{ChooseRefusal}
 use Rattle.reach_rules.specs.declared.refusal.ChooseRefusal.TheVariants as choices

@@ -36,7 +36,7 @@ use Rattle.line_laws.proofs.FurtherStepKinds.{Moves}
 use Rattle.line_laws.proofs.FurtherStates.{Sound, sound_on, start_sound}
 use Rattle.line_laws.proofs.IssueRuns.{all_of_one}
 use Rattle.line_laws.proofs.LawRuns.{every_count, every_send, every_tag, every_trace}
-use Rattle.line_laws.proofs.Readings.{network_ranges}
+use Rattle.line_laws.proofs.StorableGrants.{network_ranges}
 use Rattle.line_laws.proofs.UpsSent.{owed_at}
 
 none_some : {A : Type 0} (x : A) → None ≡ Some x → ⊥

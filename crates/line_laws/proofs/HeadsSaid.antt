@@ -11,7 +11,7 @@ use Rattle.plc_base.specs.declared.address.Eui.{Eui}
 use Rattle.joining_messages.specs.declared.message.JoinMessage.{JoinMessage}
 use Rattle.mac_frames.specs.declared.head.MacHead.TheVariants as heads
 use Rattle.mac_frames.specs.Faults.{is_sealed, has_modes, frame_fault}
-use Rattle.mac_frames.specs.Reading.{head_by, head_in, body_in}
+use Rattle.mac_frames.specs.Reader.{head_by, head_in, body_in}
 use Rattle.mac_frames.specs.Laws.{SaysItsNonce}
 use Rattle.mac_frames.proofs.HeadsSaid.{sealed_say, plain_say, nonces_in_range}
 use Rattle.node_rules.specs.Ciphers.{Ciphers}

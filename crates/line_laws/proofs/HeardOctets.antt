@@ -4,7 +4,7 @@ use Rattle.std.specs.Prelude.{IfSome}
 use Rattle.plc_base.specs.Fields.{AreOctets}
 use Rattle.node_rules.specs.Accepted.{Accepted}
 use Rattle.node_rules.specs.Memory.{StationMemory}
-use Rattle.node_rules.specs.Hearing.{hear}
+use Rattle.node_rules.specs.HearingRules.{hear}
 use Rattle.node_rules.specs.MemoryDrafts.{Unread, unread}
 use Rattle.node_rules.specs.OctetLaws.{UnreadFits}
 use Rattle.node_rules.proofs.HeardOctets.{unreads_fit}

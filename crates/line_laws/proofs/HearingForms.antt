@@ -5,7 +5,7 @@ use Rattle.std.specs.Prelude.{if◌then◌else◌, ◌==◌, ◌||◌, nat_lt, n
 use Rattle.std.specs.Option.{option_map_or}
 use Rattle.std.proofs.lemmas.Bool.{ltb-false}
 use Rattle.plc_base.specs.Faults.{◌then◌, ◌when◌}
-use Rattle.fragment_buffers.specs.Taking as pieces
+use Rattle.fragment_buffers.specs.PieceIntake as pieces
 use Rattle.fragment_buffers.specs.Reassembly.{PlacedPiece, Reassembly, placed, begun as piece_begun, datagram_of, repeats}
 use Rattle.routing_set.specs.declared.rank.Rank.{Rank}
 use Rattle.routing_set.specs.RoutingSet as routing
@@ -13,11 +13,11 @@ use Rattle.mesh_header.specs.Pieces.{Placed}
 use Rattle.mesh_header.specs.declared.unit.Mesh.{Mesh}
 use Rattle.mesh_header.specs.declared.unit.Unit.{Unit as MeshUnit}
 use Rattle.mesh_header.specs.declared.unit.Unit.TheVariants as units
-use Rattle.mesh_header.specs.Reading.{unit_in}
+use Rattle.mesh_header.specs.Reader.{unit_in}
 use Rattle.loadng_messages.specs.declared.message.Message.{Message}
 use Rattle.loadng_messages.specs.declared.message.Message.TheVariants.{Rreq, Rrep, Rerr}
 use Rattle.loadng_messages.specs.Grammar as messages
-use Rattle.loadng_messages.specs.Reading.{message_in}
+use Rattle.loadng_messages.specs.Reader.{message_in}
 use Rattle.node_rules.specs.declared.heard.Path.{Path}
 use Rattle.node_rules.specs.declared.heard.Path.TheVariants as paths
 use Rattle.node_rules.specs.Accepted.{Accepted}
@@ -28,9 +28,10 @@ use Rattle.node_rules.specs.Frames.{to_all}
 use Rattle.node_rules.specs.Memory.{StationMemory, address_of, next_hop}
 use Rattle.node_rules.specs.Plans.{resting}
 use Rattle.node_rules.specs.Drafts.{Draft, alone, empty_draft, with_rank, with_own_number, numbers_spent, leave, goes}
-use Rattle.node_rules.specs.Hearing.{Hearing, dropped, drop_it, rank_over, rank_fault, offers, offers_numbered, hear_request, hear_reply, hear_reply_for}
-use Rattle.node_rules.specs.Hearing.{hear_error, loses, pass_error_on, report_by, forward_by, gathered, gather, hear_message, hear_message_in, hear_over_mesh}
-use Rattle.node_rules.specs.Hearing.{hear_sealed, is_joining, hear_plain, hear_unit, hear_unit_in, hear}
+use Rattle.node_rules.specs.HearingRules.{Hearing, dropped, drop_it, rank_over, rank_fault, offers, offers_numbered, hear_request, hear_reply, hear_reply_for}
+use Rattle.node_rules.specs.HearingRules.{hear_error, loses, pass_error_on, report_by, forward_by, gathered, gather, hear_message, hear_message_in}
+use Rattle.node_rules.specs.HearingRules.{hear_over_mesh}
+use Rattle.node_rules.specs.HearingRules.{hear_sealed, is_joining, hear_plain, hear_unit, hear_unit_in, hear}
 use Rattle.node_rules.proofs.Words.{IsDone, learns_done, sends_on_done, answers_done, goes_done, error_done, error_on_done}
 use Rattle.line_laws.proofs.Planned.{Planned, Refuses, Keeps, checked_planned, choose_planned, sealed_planned}
 use Rattle.line_laws.proofs.Made.{RingWord, Given, IsCome, MessageCame, Offered, ByRequest, ByReply, IsLess, Whole, Part, Carried, RankFits, mesh_of, ByError}

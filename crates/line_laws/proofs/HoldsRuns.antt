@@ -28,7 +28,7 @@ use Rattle.line_laws.proofs.LawRuns.{every_count, every_send, every_tag, every_t
 use Rattle.line_laws.proofs.LineRuns.{AreLawful, Lawful, books_on, lawful, on, senders_at}
 use Rattle.line_laws.proofs.LoopRuns.{start_routed}
 use Rattle.line_laws.proofs.NonceRuns.{AtHome, later_homes}
-use Rattle.line_laws.proofs.Readings.{network_ranges}
+use Rattle.line_laws.proofs.StorableGrants.{network_ranges}
 use Rattle.line_laws.proofs.TagRuns.{start_tags}
 
 -- What the accounts hold of a world that was reached with no event forged.

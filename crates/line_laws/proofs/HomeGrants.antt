@@ -24,7 +24,7 @@ use Rattle.node_rules.specs.declared.refusal.CoordinatorRefusal.TheVariants as o
 use Rattle.node_rules.specs.declared.refusal.Dropped.TheVariants as drops
 use Rattle.node_rules.specs.declared.refusal.FrameRefusal.{FrameRefusal}
 use Rattle.node_rules.specs.declared.refusal.FrameRefusal.TheVariants as frames
-use Rattle.node_rules.specs.Accepting.{accept}
+use Rattle.node_rules.specs.Acceptance.{accept}
 use Rattle.node_rules.specs.Ciphers.{Ciphers}
 use Rattle.node_rules.specs.Coordinators as coordinator_rules
 use Rattle.node_rules.specs.Frames.{arrived}
@@ -33,7 +33,7 @@ use Rattle.node_rules.specs.Memory.{Memory, MeterSession, Role, Coordinator, Met
 use Rattle.node_rules.specs.Meters as meters
 use Rattle.node_rules.specs.NodeSteps.{NodeStep, acts, stays, left_by, answering, of_station}
 use Rattle.node_rules.specs.Plans.{Plan, carry_out}
-use Rattle.node_rules.proofs.Writing.{clean}
+use Rattle.node_rules.proofs.FailedWrites.{clean}
 use Rattle.line_laws.specs.Owed.{AreOctets, KeepsRanges}
 use Rattle.line_laws.specs.Sizes.{IsMemorySized}
 use Rattle.line_laws.specs.Stores.{IsReadable, IsKept, IsBookKept, IsPair}
@@ -54,7 +54,7 @@ use Rattle.line_laws.proofs.IssueNodes.{depot_address}
 use Rattle.line_laws.proofs.IssueSteps.{quiet_meter_did}
 use Rattle.line_laws.proofs.IssueWords.{any_found}
 use Rattle.line_laws.proofs.IssueWorlds.{Keyed}
-use Rattle.line_laws.proofs.Keeping.{Left}
+use Rattle.line_laws.proofs.KeptMemory.{Left}
 use Rattle.line_laws.proofs.Nodes.{NodeOk, DidOk, acts_ok, node_kept, ring_readable, pair_octets}
 use Rattle.line_laws.proofs.StoreMarks.{accept_is}
 use Rattle.line_laws.proofs.NodesOk.{coordinator_acts as coordinator_ok}

@@ -11,7 +11,7 @@ use Rattle.eap_psk.specs.Sessions.{identifier_of}
 use Rattle.eap_psk.specs.Tags.{granting_tag}
 use Rattle.joining_messages.specs.declared.message.JoinMessage.{JoinMessage}
 use Rattle.joining_messages.specs.declared.message.JoinBody.TheVariants as body
-use Rattle.joining_messages.specs.Reading.{join_in}
+use Rattle.joining_messages.specs.Reader.{join_in}
 use Rattle.line_events.specs.declared.event.Event.{Event}
 use Rattle.line_events.specs.declared.event.Event.TheVariants as events
 use Rattle.node_rules.specs.Accepted.{Accepted}
@@ -20,7 +20,7 @@ use Rattle.node_rules.specs.declared.refusal.CoordinatorRefusal.TheVariants as o
 use Rattle.node_rules.specs.declared.refusal.FrameRefusal.{FrameRefusal}
 use Rattle.node_rules.specs.Ciphers.{Ciphers}
 use Rattle.node_rules.specs.Coordinators as coordinator_rules
-use Rattle.node_rules.specs.Hearing.{hear}
+use Rattle.node_rules.specs.HearingRules.{hear}
 use Rattle.node_rules.specs.MemoryDrafts.{unread, Unread}
 use Rattle.node_rules.specs.Memory.{Memory, MeterSession, Meter, Node, node_address}
 use Rattle.node_rules.specs.Meters as meters

@@ -5,7 +5,7 @@ use Rattle.std.specs.Prelude.{if◌then◌else◌, IfSome, nat_le, nat_lt, ◌==
 use Rattle.std.specs.Option.{option_map_or}
 use Rattle.plc_base.specs.declared.address.Eui.{Eui}
 use Rattle.plc_base.specs.declared.key.Key.{Key}
-use Rattle.plc_base.specs.declared.key.Rand.{Rand}
+use Rattle.plc_base.specs.declared.key.RandomOctets.{RandomOctets}
 use Rattle.plc_base.specs.Grant.{Granted, keyed}
 use Rattle.plc_base.specs.Keeper.{Records}
 use Rattle.store_tables.specs.Writes.{puts_of}
@@ -30,9 +30,9 @@ use Rattle.node_rules.specs.Frames.{arrived}
 use Rattle.line_rules.specs.Answers.{SentGrant, CompletedJoining}
 use Rattle.node_rules.specs.Memory.{StationMemory, Memory, Coordinator}
 use Rattle.node_rules.specs.Plans.{Plan, resting}
-use Rattle.node_rules.specs.Accepting.{Accepting, accept, marking}
+use Rattle.node_rules.specs.Acceptance.{Accepting, accept, marking}
 use Rattle.node_rules.specs.Drafts.{Ends, alone, empty_draft, choose, sealing, refused}
-use Rattle.node_rules.specs.Hearing.{dropped}
+use Rattle.node_rules.specs.HearingRules.{dropped}
 use Rattle.node_rules.specs.MemoryDrafts.{in_memory, with_station, give_random, given_ends, with_memory_by}
 use Rattle.node_rules.specs.Calls as calls
 use Rattle.node_rules.specs.Coordinators as coordinators
@@ -40,7 +40,7 @@ use Rattle.node_rules.specs.NodeSteps.{of_station}
 use Rattle.line_laws.specs.Stores.{IsHeld, IsReadable, HasEui, IsPair}
 use Rattle.line_laws.specs.Sizes.{IsAnyLoad, IsMemorySized}
 use Rattle.line_laws.specs.Owed.{AreOctets, KeepsRanges}
-use Rattle.line_laws.proofs.Keeping.{Leads, leads_beside}
+use Rattle.line_laws.proofs.KeptMemory.{Leads, leads_beside}
 use Rattle.line_laws.proofs.Beside.{low_one}
 use Rattle.line_laws.proofs.StoreWords.{limit_kept, number_kept}
 use Rattle.line_laws.proofs.StoreRanks.{EntryFits}
@@ -153,7 +153,7 @@ module _ (g : Given) (m : Memory) (h : IsMemorySized m)
     made = (station_rest p s).1;
   }
 
-given_rest : (m : Memory) (value : Rand) → ((give_random m value).memory.session ≡ m.session) × ((give_random m value).made ≡ [])
+given_rest : (m : Memory) (value : RandomOctets) → ((give_random m value).memory.session ≡ m.session) × ((give_random m value).made ≡ [])
 unfolding choose empty_draft resting with_memory_by
 given_rest m value = by_room (nat_lt 7 (length m.randoms))
   where
@@ -207,7 +207,7 @@ module _ (m : Memory) (h : IsMemorySized m) where
     made = refl;
   }
 
-  pub random_quietly : (value : Rand) → Quietly m (give_random m value)
+  pub random_quietly : (value : RandomOctets) → Quietly m (give_random m value)
   random_quietly value = record {
     leads = λ V. plan_grown V NoWord NoGrant NoPair NoEui (call_given 0 0 0) m no_words (call_offers 0 0 0) (λ eui k. absurd k) (λ eui psk k. absurd k)
         (no_entry m V) (λ r k granted none. absurd none) given_ends Nothing (λ n answer k. absurd k) _

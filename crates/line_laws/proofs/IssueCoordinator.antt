@@ -4,7 +4,7 @@ use Rattle.std.specs.Prelude.{⊤, IfSome}
 use Rattle.std.specs.Option.{option_map_or}
 use Rattle.plc_base.specs.declared.address.Eui.{Eui}
 use Rattle.plc_base.specs.declared.key.Key.{Key}
-use Rattle.plc_base.specs.declared.key.Rand.{Rand}
+use Rattle.plc_base.specs.declared.key.RandomOctets.{RandomOctets}
 use Rattle.plc_base.specs.declared.tags.PairTag.{PairTag}
 use Rattle.plc_base.specs.declared.tags.PairTag.TheVariants as tags
 use Rattle.plc_base.specs.Grant.{Granted}
@@ -14,7 +14,7 @@ use Rattle.group_keys.specs.declared.key_book.BookEntry.{BookEntry}
 use Rattle.joining_messages.specs.declared.message.JoinMessage.{JoinMessage}
 use Rattle.joining_messages.specs.declared.message.JoinBody.{JoinBody}
 use Rattle.joining_messages.specs.declared.message.JoinBody.TheVariants as body
-use Rattle.joining_messages.specs.Reading.{join_in}
+use Rattle.joining_messages.specs.Reader.{join_in}
 use Rattle.eap_psk.specs.Messages.{granting_text}
 use Rattle.eap_psk.specs.Tags.{mac_p_tag, mac_s_tag, granting_tag, success_tag}
 use Rattle.eap_psk.specs.declared.server.Server.{Server}
@@ -30,9 +30,9 @@ use Rattle.line_rules.specs.Answers.{SentGrant, CompletedJoining}
 use Rattle.node_rules.specs.Memory.{StationMemory, Memory, CoordinatorSession}
 use Rattle.node_rules.specs.Plans.{Plan, resting}
 use Rattle.node_rules.specs.Drafts.{Draft, Ends, alone, empty_draft}
-use Rattle.node_rules.specs.Hearing as station_rules
-use Rattle.node_rules.specs.Hearing.{dropped}
-use Rattle.node_rules.specs.Joining.{message, server_for, server_agrees}
+use Rattle.node_rules.specs.HearingRules as station_rules
+use Rattle.node_rules.specs.HearingRules.{dropped}
+use Rattle.node_rules.specs.JoiningPackets.{message, server_for, server_agrees}
 use Rattle.eap_psk.specs.Sessions.{rand_p_in}
 use Rattle.node_rules.specs.MemoryDrafts.{in_memory, with_station, goes_up, goes_down, oldest, without_oldest, Unread, unread, with_memory_by, with_pair_tags}
 use Rattle.node_rules.specs.MemoryDrafts.{on_station, station_part}
@@ -103,7 +103,7 @@ module _ (S : ring.Ring → Type 0) (W : RingWord → Type 0) (L : Granted → T
 -- which tags the coordinator makes: the third packet's for a meter whose keys it says to have sent
 pub data CoordinatorTag (m : Memory) (keyed : Option SentGrant) : PairTag → Type 0 where
   ServerMac : (eui : Eui) (octets : List ℕ) → CoordinatorTag m keyed (tags.MacS eui octets)
-  Third : (eui : Eui) (i : ℕ) (s p : Rand) (granted : Granted) → keyed ≡ Some (record { eui = eui; granted = granted }) → grant_for m eui ≡ Some granted
+  Third : (eui : Eui) (i : ℕ) (s p : RandomOctets) (granted : Granted) → keyed ≡ Some (record { eui = eui; granted = granted }) → grant_for m eui ≡ Some granted
       → CoordinatorTag m keyed (granting_tag eui i s p (granting_text granted))
 
 -- a joining that is done was found right
@@ -142,7 +142,7 @@ changed_says : (m : Memory) (change : Memory → Memory) → CoordinatorSays m N
 unfolding empty_draft with_memory_by
 changed_says m change = record { made = tt; right = tt }
 
-noted_says : (m : Memory) (s : CoordinatorSession) (e : BookEntry) (rand_p : Rand) (granted : Granted) (change : Memory → Memory)
+noted_says : (m : Memory) (s : CoordinatorSession) (e : BookEntry) (rand_p : RandomOctets) (granted : Granted) (change : Memory → Memory)
     → grant_for m s.server.eui ≡ Some granted
     → CoordinatorSays m (Some (record { eui = s.server.eui; granted = granted })) None
     (with_pair_tags (mac_s_tag s.server.eui s.server.id_s rand_p ∷ granting_tag s.server.eui 2 s.server.rand_s rand_p (granting_text granted) ∷ [])
@@ -152,7 +152,7 @@ unfolding empty_draft with_memory_by with_book_entry with_pair_tags
 noted_says m s e rand_p granted change is =
     record { made = (ServerMac s.server.eui _, (Third s.server.eui 2 s.server.rand_s rand_p granted refl is, tt)); right = tt }
 
-closed_says : (m : Memory) (s : CoordinatorSession) (rand_p : Rand) (change : Memory → Memory)
+closed_says : (m : Memory) (s : CoordinatorSession) (rand_p : RandomOctets) (change : Memory → Memory)
     → CoordinatorSays m None (Some (record { eui = s.server.eui; agreed = server_agrees s.server rand_p }))
     (with_pair_tags [] (success_tag s.server.eui 2 s.server.rand_s rand_p ∷ []) (with_memory_by change (empty_draft m)))
 unfolding empty_draft with_memory_by with_pair_tags
@@ -182,7 +182,7 @@ module _ (own : CoordinatorIdentity) (m : Memory) (g : Given) where
   asked_is : (way : Way) (eui : Eui) → Is (join_without_packet own m way eui g.now)
   asked_is way eui = choose_planned (λ allowed. open_is way eui) (λ other. declines_is way _)
 
-  keys_is : (s : CoordinatorSession) (e : BookEntry) (rand_p : Rand) (granted : Granted) → grant_for m s.server.eui ≡ Some granted
+  keys_is : (s : CoordinatorSession) (e : BookEntry) (rand_p : RandomOctets) (granted : Granted) → grant_for m s.server.eui ≡ Some granted
       → Is (keys_for own m s e rand_p granted g.now)
   keys_is s e rand_p granted is = checked_planned (λ lacks.
       sealed_planned _ _ (said m _ None s.way _ g.now _
@@ -193,7 +193,7 @@ module _ (own : CoordinatorIdentity) (m : Memory) (g : Given) where
       option_planned (λ granted. keys_for own m s e (rand_p_in packet) granted g.now) (grant_for m s.server.eui) (drop_it m drops.NotAllowed)
       (λ granted is. keys_is s e _ granted is) (λ none. Refuses _))
 
-  accepts_is : (s : CoordinatorSession) (rand_p : Rand) → Is (accepts m s rand_p g.now)
+  accepts_is : (s : CoordinatorSession) (rand_p : RandomOctets) → Is (accepts m s rand_p g.now)
   accepts_is s rand_p = checked_planned (λ lacks. sealed_planned _ _ (said m None _ s.way _ g.now _ (closed_says m s rand_p (without_session s.server.eui))))
 
   packet_is : (e : BookEntry) (packet : List ℕ) (s : CoordinatorSession) → Is (take_packet own m e packet g.now s)

@@ -3,7 +3,7 @@ use Rattle.std.proofs.Common.{◌≡◌, ℕ, ◌≤◌, Bool, true, false, List
 use Rattle.std.specs.Prelude.{if◌then◌else◌, IfSome, is_some}
 use Rattle.std.specs.Option.{option_map}
 use Rattle.plc_base.specs.declared.address.Eui.{Eui}
-use Rattle.plc_base.specs.declared.key.Rand.{Rand}
+use Rattle.plc_base.specs.declared.key.RandomOctets.{RandomOctets}
 use Rattle.plc_base.specs.declared.tags.PairTag.{PairTag}
 use Rattle.plc_base.specs.declared.tags.PairTag.TheVariants as tags
 use Rattle.plc_base.specs.Grant.{Granted}
@@ -11,7 +11,7 @@ use Rattle.group_keys.specs.KeyRing as ring
 use Rattle.joining_messages.specs.declared.message.JoinMessage.{JoinMessage}
 use Rattle.joining_messages.specs.declared.message.JoinBody.{JoinBody}
 use Rattle.joining_messages.specs.declared.message.JoinBody.TheVariants as body
-use Rattle.joining_messages.specs.Reading.{join_in}
+use Rattle.joining_messages.specs.Reader.{join_in}
 use Rattle.eap_psk.specs.Faults.{first_fault}
 use Rattle.eap_psk.specs.Messages.{granting_text}
 use Rattle.eap_psk.specs.Tags.{mac_p_tag, mac_s_tag, granting_tag, success_tag}
@@ -32,9 +32,9 @@ use Rattle.node_rules.specs.declared.refusal.Dropped.TheVariants.{BadUnit, NoSes
 use Rattle.node_rules.specs.Memory.{StationMemory, Memory, MeterSession, SessionWay, ByAgent, ByCommand, address_of}
 use Rattle.node_rules.specs.Plans.{Plan, resting}
 use Rattle.node_rules.specs.Drafts.{Draft, Ends, alone, empty_draft, checked, choose, with_ring, sealing, refused}
-use Rattle.node_rules.specs.Hearing as station_rules
-use Rattle.node_rules.specs.Hearing.{dropped}
-use Rattle.node_rules.specs.Joining.{message}
+use Rattle.node_rules.specs.HearingRules as station_rules
+use Rattle.node_rules.specs.HearingRules.{dropped}
+use Rattle.node_rules.specs.JoiningPackets.{message}
 use Rattle.eap_psk.specs.Sessions.{peer_for, agreed_by, identifier_of}
 use Rattle.node_rules.specs.MemoryDrafts.{in_memory, with_station, goes_up, goes_down, is_commanded, oldest, without_oldest, Unread, unread, packet_fault}
 use Rattle.node_rules.specs.MemoryDrafts.{with_memory_by, with_pair_tags, on_station}
@@ -66,7 +66,8 @@ same_here g = record { address = refl; key0 = refl; key1 = refl }
 -- a grant was there, or came under a tag that was opened
 pub data CameBy (eui : Eui) (old : ring.Ring) (opened : List PairTag) (g : Granted) : Type 0 where
   Held : (r : Granted) → old ≡ Some r → IsSame g r → CameBy eui old opened g
-  Opened : (i : ℕ) (s p : Rand) (r : Granted) → Among (granting_tag eui i s p (granting_text r)) opened → IsReadable r → IsSame g r → CameBy eui old opened g
+  Opened : (i : ℕ) (s p : RandomOctets) (r : Granted) → Among (granting_tag eui i s p (granting_text r)) opened → IsReadable r → IsSame g r
+      → CameBy eui old opened g
 
 abbrev pub From : Eui → ring.Ring → List PairTag → ring.Ring → Type 0
 From eui old opened x = IfSome x (CameBy eui old opened)
@@ -74,7 +75,7 @@ From eui old opened x = IfSome x (CameBy eui old opened)
 -- which tags a meter makes: the fourth packet's where it took its grant
 pub data MeterTag (eui : Eui) (took : Option Agreed) : PairTag → Type 0 where
   Second : (octets : List ℕ) → MeterTag eui took (tags.MacP eui octets)
-  Fourth : (i : ℕ) (s p : Rand) → took ≡ Some (record { rand_s = s; rand_p = p }) → MeterTag eui took (success_tag eui i s p)
+  Fourth : (i : ℕ) (s p : RandomOctets) → took ≡ Some (record { rand_s = s; rand_p = p }) → MeterTag eui took (success_tag eui i s p)
 
 -- what a meter took
 abbrev pub took_in : MeterHeard → Option Agreed

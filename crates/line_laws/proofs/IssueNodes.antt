@@ -9,7 +9,7 @@ use Rattle.std.proofs.lemmas.Option.{same_Some}
 use Rattle.std.proofs.lemmas.Slice.Eq.{bytes_eq-Decides}
 use Rattle.plc_base.specs.declared.address.Eui.{Eui}
 use Rattle.plc_base.specs.declared.key.Key.{Key}
-use Rattle.plc_base.specs.declared.key.Rand.{Rand}
+use Rattle.plc_base.specs.declared.key.RandomOctets.{RandomOctets}
 use Rattle.plc_base.specs.declared.tags.PairTag.{PairTag}
 use Rattle.plc_base.specs.declared.tags.PairTag.TheVariants as tags
 use Rattle.plc_base.specs.Grant.{Granted}
@@ -37,9 +37,9 @@ use Rattle.node_rules.specs.Coordinators.{grant_for, depot, depot_by, changed, w
 use Rattle.line_rules.specs.Worlds.{Issued, same_tag, is_forged_tag}
 use Rattle.node_rules.specs.NodeSteps.{NodeStep, acts, stays, left_by}
 use Rattle.line_rules.specs.Steps.{issued_at, issued_by, issued_of}
-use Rattle.node_rules.proofs.Writing.{clean}
+use Rattle.node_rules.proofs.FailedWrites.{clean}
 use Rattle.line_laws.specs.Stores.{IsHeld, IsReadable, IsKept}
-use Rattle.line_laws.proofs.Keeping.{Left, Leads, carried}
+use Rattle.line_laws.proofs.KeptMemory.{Left, Leads, carried}
 use Rattle.line_laws.proofs.Nodes.{NodeOk}
 use Rattle.line_laws.proofs.Answered.{granted_readable}
 use Rattle.line_laws.proofs.AddressPuts.{RingIn, RingWrites, Puts, counter_away, writes_weaker, carried_in}
@@ -115,7 +115,7 @@ all_made made opened e t among = by_not (list_any (same_tag t) made) (none_any (
     by_not false h = absurd (cc)
 
 module _ (b : book.Book) (given : List Issued) (eui : Eui) where
-  pub found_grant : (i : ℕ) (s p : Rand) (r : Granted) → IsReadable r → Found (TagOk b given) (same_tag (granting_tag eui i s p (granting_text r)))
+  pub found_grant : (i : ℕ) (s p : RandomOctets) (r : Granted) → IsReadable r → Found (TagOk b given) (same_tag (granting_tag eui i s p (granting_text r)))
       → GrantOk b given eui r
   found_grant i s p r readable f = by_tag f.one f.passes f.is
     where

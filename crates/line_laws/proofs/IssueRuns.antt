@@ -17,7 +17,7 @@ use Rattle.line_rules.specs.Steps.{Step}
 use Rattle.line_rules.specs.Runs.{Entry, all_of}
 use Rattle.line_rules.specs.SafeRuns.{IsIssued, HoldsIssued, HasIssuedKeys, HasOnlyIssuedKeys}
 use Rattle.line_laws.specs.Stores.{IsKept}
-use Rattle.line_laws.proofs.Keeping.{Left}
+use Rattle.line_laws.proofs.KeptMemory.{Left}
 use Rattle.line_laws.proofs.Nodes.{NodeOk}
 use Rattle.line_laws.proofs.Worlds.{FlightFits, WorldOk, at_place}
 use Rattle.line_laws.proofs.IssueWords.{Among, Here, Later, Each}

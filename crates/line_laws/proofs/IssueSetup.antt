@@ -26,7 +26,7 @@ use Rattle.node_rules.specs.Plans.{Plan, resting, within}
 use Rattle.node_rules.specs.Calls as calls
 use Rattle.node_rules.specs.Meters as meters
 use Rattle.node_rules.specs.Coordinators as coordinator_rules
-use Rattle.node_rules.specs.StoreReading.{first_grant}
+use Rattle.node_rules.specs.RestartStates.{first_grant}
 use Rattle.node_rules.specs.declared.refusal.RingRefusal.TheVariants.{Store as RingStore}
 use Rattle.node_rules.specs.Drafts.{choose, empty_draft, with_ring}
 use Rattle.node_rules.specs.MemoryDrafts.{with_station}
@@ -43,10 +43,10 @@ use Rattle.line_rules.specs.Steps.{issued_by}
 use Rattle.line_laws.specs.Stores.{IsReadable, IsKept, IsBookKept, HasEui, IsPair}
 use Rattle.line_laws.specs.Sizes.{IsMemorySized}
 use Rattle.line_laws.specs.Owed.{AreOctets, KeepsRanges}
-use Rattle.line_laws.proofs.Keeping.{Left}
+use Rattle.line_laws.proofs.KeptMemory.{Left}
 use Rattle.line_laws.proofs.Nodes.{NodeOk}
 use Rattle.line_laws.proofs.NodeCalls.{no_some}
-use Rattle.line_laws.proofs.Readings.{held, none_held}
+use Rattle.line_laws.proofs.StorableGrants.{held, none_held}
 use Rattle.line_laws.proofs.CoordinatorCalls.{depot_ok, depot_failed}
 use Rattle.line_laws.proofs.Answered.{depot_grants}
 use Rattle.line_laws.proofs.StepsOk.{begin_ok}
@@ -63,7 +63,7 @@ use Rattle.line_laws.proofs.IssueNodes.{issued_keys}
 use Rattle.line_laws.proofs.IssueCalls.{Quietly, near_quietly, counter_quietly, number_quietly}
 use Rattle.line_laws.proofs.IssueCalls.{depot_coordinator}
 use Rattle.line_laws.proofs.IssueWorlds.{Keyed, IsMeter, after_meter, after_coordinator, after_here, keyed_more}
-use Rattle.node_rules.specs.Accepting.{same_eui}
+use Rattle.node_rules.specs.Acceptance.{same_eui}
 use Rattle.line_events.specs.Events.{IsEui}
 use Rattle.line_laws.proofs.IssueSteps.{Fails, StepKeyed, Taken, activate_keyed, after_as, allow_keyed, at_node, branch, break_keyed, by_option}
 use Rattle.line_laws.proofs.IssueSteps.{challenge_keyed, cut_keyed, deliver_keyed, inject_keyed, join_keyed, kick_keyed, leave_keyed, lose_keyed, node_fits}
@@ -340,7 +340,7 @@ module _ (ciphers : Ciphers) (fits : KeepsRanges ciphers) (w : World) (ok : Worl
   step_keyed (events.Counter node value) e = preset_keyed node _ (λ m sized. counter_quietly m sized value e.1)
   step_keyed (events.Number node value) e = preset_keyed node _ (λ m sized. number_quietly m sized value e.1 e.2)
   step_keyed (events.Allow node) e = (allow_keyed ciphers fits w ok flown given k) node
-  step_keyed (events.Rand node value) e = (rand_keyed ciphers fits w ok flown given k) node value
+  step_keyed (events.RandomOctets node value) e = (rand_keyed ciphers fits w ok flown given k) node value
   step_keyed (events.Join node agent) e = (join_keyed ciphers fits w ok flown given k) node agent
   step_keyed (events.Leave node) e = (leave_keyed ciphers fits w ok flown given k) node
   step_keyed (events.Send from to datagram) e = (send_keyed ciphers fits w ok flown given k) from to datagram

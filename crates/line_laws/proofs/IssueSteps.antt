@@ -10,7 +10,7 @@ use Rattle.store_tables.proofs.SlotTables.{slice_get-map}
 use Rattle.plc_base.specs.Keeper.{Records}
 use Rattle.plc_base.specs.declared.address.Eui.{Eui}
 use Rattle.plc_base.specs.declared.key.Key.{Key}
-use Rattle.plc_base.specs.declared.key.Rand.{Rand}
+use Rattle.plc_base.specs.declared.key.RandomOctets.{RandomOctets}
 use Rattle.group_keys.specs.KeyBook as book
 use Rattle.line_events.specs.declared.event.Answer.{Answer}
 use Rattle.line_events.specs.declared.event.StepFault.{StepFault}
@@ -30,11 +30,11 @@ use Rattle.node_rules.specs.Ciphers.{Ciphers}
 use Rattle.node_rules.specs.Frames.{arrived}
 use Rattle.node_rules.specs.Memory.{StationMemory, Memory, Role, Coordinator, Meter, Node, node_address}
 use Rattle.node_rules.specs.Plans.{Plan}
-use Rattle.node_rules.specs.Accepting.{accept}
+use Rattle.node_rules.specs.Acceptance.{accept}
 use Rattle.node_rules.specs.Calls as calls
 use Rattle.node_rules.specs.Meters as meters
 use Rattle.node_rules.specs.Coordinators as coordinator_rules
-use Rattle.node_rules.specs.StoreReading.{remembering, memory_of}
+use Rattle.node_rules.specs.RestartStates.{remembering, memory_of}
 use Rattle.line_rules.specs.Answers.{Reception, meter_reception, coordinator_reception, random_word, join_word, leave_word, sent_word, ordered_word, frame_word}
 use Rattle.line_rules.specs.Worlds.{World, Flight, Trace, node_at, flight_at, is_forged_tag}
 use Rattle.line_rules.specs.Steps.{Step, set_up, running_world, world_after, node_outcome, once_begun, in_setup, has_begun, takes_setup, on_node, on_meter}
@@ -52,8 +52,8 @@ use Rattle.node_rules.specs.declared.refusal.Dropped.{Dropped}
 use Rattle.line_rules.specs.Worlds.{Issued}
 use Rattle.line_rules.specs.Steps.{issued_of}
 use Rattle.plc_base.specs.declared.keeper.BadStore.{BadStore}
-use Rattle.node_rules.specs.StoreReading.{station_of, reading}
-use Rattle.node_rules.specs.Hearing.{dropped}
+use Rattle.node_rules.specs.RestartStates.{station_of, reading}
+use Rattle.node_rules.specs.HearingRules.{dropped}
 use Rattle.node_rules.specs.Memory.{MeterSession}
 use Rattle.line_laws.specs.Stores.{IsReadable, IsBookKept}
 use Rattle.line_laws.specs.Sizes.{IsMemorySized}
@@ -61,7 +61,7 @@ use Rattle.line_laws.specs.Owed.{AreOctets, KeepsRanges}
 use Rattle.joining_messages.proofs.JoinRanges.{read_fits}
 use Rattle.line_laws.proofs.Nodes.{NodeOk, ring_readable, pair_octets}
 use Rattle.line_laws.proofs.NodeCalls.{RoutesFit, no_some, heard_given}
-use Rattle.line_laws.proofs.Readings.{held}
+use Rattle.line_laws.proofs.StorableGrants.{held}
 use Rattle.line_laws.proofs.CoordinatorCalls.{accept_ok, accept_failed, accepted_routes}
 use Rattle.line_laws.proofs.StoreMarks.{accept_is}
 use Rattle.line_laws.proofs.Answered.{acts_answered}
@@ -195,7 +195,7 @@ module _ (ciphers : Ciphers) (fits : KeepsRanges ciphers) (w : World) (ok : Worl
       (after_as ciphers (running_world w) number reads (acts x halted plan) given
       (quiet_after ciphers fits (running_world w) given ran_keyed number x there (node_ok number x there) halted plan q))
 
-  pub rand_keyed : (number : ℕ) (value : Rand) → Good (rand ciphers w number value)
+  pub rand_keyed : (number : ℕ) (value : RandomOctets) → Good (rand ciphers w number value)
   unfolding rand
   rand_keyed number value =
       once _ (at_node number _ (λ x there. acted_quiet number x random_word (Err randoms.Halted) _ there (λ m sized. random_quietly m sized value)))

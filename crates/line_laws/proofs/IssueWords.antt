@@ -9,7 +9,7 @@ use Rattle.node_rules.specs.Memory.{StationMemory, Memory, Load, Command, addres
 use Rattle.node_rules.specs.Drafts.{Draft, with_rank, with_own_number, with_next_tag, with_ring, with_routing_by, goes, body_goes, is_awaited, waits, seeks}
 use Rattle.node_rules.specs.Drafts.{seeks_once, sets_out, leave}
 use Rattle.node_rules.specs.MemoryDrafts.{on_station, station_part, is_commanded}
-use Rattle.node_rules.specs.Joining.{command_of}
+use Rattle.node_rules.specs.JoiningPackets.{command_of}
 use Rattle.line_laws.specs.Stores.{IsReadable}
 use Rattle.line_laws.proofs.Made.{RingWord, Given, Made, Starts, Ranks, Numbers, Tags, Rings, Idles, Loses, Goes, Sends, Waits, Leaves}
 use Rattle.line_laws.proofs.AddressPuts.{Rung, RingWrites, writes_append, number_away}

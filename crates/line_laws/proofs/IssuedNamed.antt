@@ -15,7 +15,7 @@ use Rattle.node_rules.specs.Ciphers.{Ciphers}
 use Rattle.node_rules.specs.Frames.{arrived}
 use Rattle.node_rules.specs.Memory.{Memory, Role, Coordinator, Meter, Node}
 use Rattle.node_rules.specs.Plans.{Plan}
-use Rattle.node_rules.specs.Accepting.{accept}
+use Rattle.node_rules.specs.Acceptance.{accept}
 use Rattle.node_rules.specs.Coordinators as coordinator_rules
 use Rattle.node_rules.specs.Meters as meters
 use Rattle.node_rules.specs.Calls as calls

@@ -4,7 +4,7 @@ use Rattle.std.specs.Prelude.{if◌then◌else◌, IfSome, is_some}
 use Rattle.std.specs.Option.{option_map_or}
 use Rattle.store_tables.specs.SlotTables as slots
 use Rattle.plc_base.specs.declared.address.Eui.{Eui}
-use Rattle.plc_base.specs.declared.key.Rand.{Rand}
+use Rattle.plc_base.specs.declared.key.RandomOctets.{RandomOctets}
 use Rattle.plc_base.specs.Grant.{Granted}
 use Rattle.eap_psk.specs.declared.server.Server.{Server}
 use Rattle.group_keys.specs.declared.key_book.BookEntry.{BookEntry}
@@ -12,7 +12,7 @@ use Rattle.group_keys.specs.KeyBook as book
 use Rattle.joining_messages.specs.declared.message.JoinMessage.{JoinMessage}
 use Rattle.joining_messages.specs.declared.message.JoinBody.{JoinBody}
 use Rattle.joining_messages.specs.declared.message.JoinBody.TheVariants as body
-use Rattle.joining_messages.specs.Reading.{join_in}
+use Rattle.joining_messages.specs.Reader.{join_in}
 use Rattle.node_rules.specs.Accepted.{Accepted}
 use Rattle.node_rules.specs.declared.heard.CoordinatorHeard.{CoordinatorHeard}
 use Rattle.node_rules.specs.declared.heard.CoordinatorHeard.TheVariants as heard
@@ -23,9 +23,9 @@ use Rattle.node_rules.specs.declared.refusal.Dropped.TheVariants as drops
 use Rattle.node_rules.specs.Memory.{StationMemory, Memory, CoordinatorSession}
 use Rattle.node_rules.specs.Plans.{Plan, resting}
 use Rattle.node_rules.specs.Drafts.{Draft, alone}
-use Rattle.node_rules.specs.Hearing as station_rules
-use Rattle.node_rules.specs.Hearing.{dropped}
-use Rattle.node_rules.specs.Joining.{server_for}
+use Rattle.node_rules.specs.HearingRules as station_rules
+use Rattle.node_rules.specs.HearingRules.{dropped}
+use Rattle.node_rules.specs.JoiningPackets.{server_for}
 use Rattle.eap_psk.specs.Sessions.{rand_p_in}
 use Rattle.node_rules.specs.MemoryDrafts.{in_memory, with_station, oldest, Unread, unread}
 use Rattle.node_rules.specs.Coordinators.{Hearing, CoordinatorIdentity, drop_it, session_of, grant_for, declines, challenges, open_session, join_without_packet}
@@ -79,7 +79,7 @@ module _ (own : CoordinatorIdentity) (m : Memory) (g : Given) where
   asked_is : (way : Way) (eui : Eui) → Is (join_without_packet own m way eui g.now)
   asked_is way eui = choose_planned (λ allowed. open_is way eui) (λ other. declines_is way _)
 
-  keys_is : (s : CoordinatorSession) (e : BookEntry) (rand_p : Rand) (granted : Granted) → IsGrantedTo m s.server.eui granted
+  keys_is : (s : CoordinatorSession) (e : BookEntry) (rand_p : RandomOctets) (granted : Granted) → IsGrantedTo m s.server.eui granted
       → Is (keys_for own m s e rand_p granted g.now)
   keys_is s e rand_p granted is = checked_planned (λ lacks. sealed_planned _ _ is)
 
@@ -90,7 +90,7 @@ module _ (own : CoordinatorIdentity) (m : Memory) (g : Given) where
       (λ granted is. keys_is s e _ granted (record { grant = is; allowed = allowed; asked = asked; session = s; there = there; named = refl }))
       (λ none. Refuses _))
 
-  accepts_is : (s : CoordinatorSession) (rand_p : Rand) → Is (accepts m s rand_p g.now)
+  accepts_is : (s : CoordinatorSession) (rand_p : RandomOctets) → Is (accepts m s rand_p g.now)
   accepts_is s rand_p = checked_planned (λ lacks. sealed_planned _ _ tt)
 
   packet_is : (asked : Eui) (e : BookEntry) (packet : List ℕ) (s : CoordinatorSession) → session_of m asked ≡ Some s

@@ -32,8 +32,8 @@ use Rattle.line_laws.proofs.IssueWorlds.{Keyed, IsMeter}
 use Rattle.line_laws.proofs.IssuedNamed.{StepNamed}
 use Rattle.line_laws.proofs.KeysStood.{IssuedBy, StoodIn, ToOther}
 use Rattle.line_laws.proofs.LineRuns.{AreLawful, Lawful, Stood, books_on, keyed_on, lawful, on}
-use Rattle.line_laws.proofs.Readings.{network_ranges}
-use Rattle.line_laws.proofs.Running.{start_ok}
+use Rattle.line_laws.proofs.StorableGrants.{network_ranges}
+use Rattle.line_laws.proofs.EveryRun.{start_ok}
 use Rattle.line_laws.proofs.ShutSteps.{ShutAt}
 use Rattle.line_laws.proofs.Worlds.{WorldOk, at_place, within as place_within}
 

@@ -12,7 +12,7 @@ use Rattle.node_rules.specs.Frames.{Sent, Sealed}
 use Rattle.node_rules.specs.Memory.{Memory, Node}
 use Rattle.node_rules.specs.NodeSteps.{acts, left_by, stays}
 use Rattle.node_rules.specs.Plans.{Plan, carry_out}
-use Rattle.node_rules.proofs.Writing.{no_cut}
+use Rattle.node_rules.proofs.FailedWrites.{no_cut}
 use Rattle.line_rules.specs.Nonces.{IsSpelled}
 use Rattle.line_rules.specs.Worlds.{start}
 use Rattle.line_laws.specs.InCustody.{FlightIsOf, SentUnder}
@@ -25,7 +25,7 @@ use Rattle.line_laws.proofs.IssueRuns.{start_keyed}
 use Rattle.line_laws.proofs.LaterSeals.{goes_out_is, plan}
 use Rattle.line_laws.proofs.LoopRuns.{start_routes}
 use Rattle.line_laws.proofs.RangeRuns.{start_ranged}
-use Rattle.line_laws.proofs.Running.{start_ok}
+use Rattle.line_laws.proofs.EveryRun.{start_ok}
 use Rattle.line_laws.proofs.TagRuns.{start_tags}
 
 pub may_be_sealed : CommandsMayBeSealed

@@ -84,7 +84,7 @@ use Rattle.line_laws.proofs.RangeFrames.{IsSent}
 use Rattle.line_laws.proofs.RangePlans.{DidRanged, acts_ranged, did_flights}
 use Rattle.line_laws.proofs.RankFold.{IsAt}
 use Rattle.line_laws.proofs.RankPlans.{NodeRanks, acts_ranks, same_ranks}
-use Rattle.line_laws.proofs.Readings.{network_ranges}
+use Rattle.line_laws.proofs.StorableGrants.{network_ranges}
 use Rattle.line_laws.proofs.RouteParts.{StationStep, step_holds, after_step}
 use Rattle.line_laws.proofs.TagRuns.{TagStays, acts_stays}
 use Rattle.line_laws.proofs.Worlds.{at_place, counts_ok, ok_after, within}

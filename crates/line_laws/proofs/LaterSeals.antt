@@ -24,7 +24,7 @@ use Rattle.node_rules.specs.Memory.{Memory, Role, Coordinator, Node, address_of}
 use Rattle.node_rules.specs.MemoryDrafts.{with_station}
 use Rattle.node_rules.specs.NodeSteps.{acts, left_by, of_station, stays}
 use Rattle.node_rules.specs.Plans.{Plan, carry_out, resting}
-use Rattle.node_rules.proofs.Writing.{clean}
+use Rattle.node_rules.proofs.FailedWrites.{clean}
 use Rattle.line_laws.specs.Custody.{content_is, sent_is, weigh}
 use Rattle.line_laws.specs.Later.{IsBeside, MayBeSealed, seals}
 use Rattle.line_laws.specs.SealedUnits.{GoesToOne, IsRoute}
@@ -44,7 +44,7 @@ use Rattle.line_laws.proofs.CustodyTrue.{SentIsOf}
 use Rattle.line_laws.proofs.Frontiers.{reserve_high, sealed_numbered}
 use Rattle.line_laws.proofs.IssueCalls.{Quietly}
 use Rattle.line_laws.proofs.IssueWords.{Each}
-use Rattle.line_laws.proofs.Keeping.{Leads, leads_beside}
+use Rattle.line_laws.proofs.KeptMemory.{Leads, leads_beside}
 use Rattle.line_laws.proofs.MarkWrites.{away_leads, reserve_away}
 use Rattle.line_laws.proofs.Nodes.{PlanOk, sealed_few}
 use Rattle.line_laws.proofs.OctetDrafts.{OutSpeaks, SentOctets, sealed_speak}

@@ -15,7 +15,7 @@ use Rattle.line_laws.proofs.AddressPuts.{RingWrites}
 use Rattle.line_laws.proofs.Frontiers.{High, Elsewhere}
 use Rattle.line_laws.proofs.IssueCalls.{Quietly}
 use Rattle.line_laws.proofs.IssueWords.{Each}
-use Rattle.line_laws.proofs.Keeping.{Leads, leads_beside, leads_one, leads_append}
+use Rattle.line_laws.proofs.KeptMemory.{Leads, leads_beside, leads_one, leads_append}
 use Rattle.line_laws.proofs.MarkWrites as marks
 use Rattle.line_laws.proofs.Nodes.{PlanOk}
 use Rattle.line_laws.proofs.RankWrites as ranks

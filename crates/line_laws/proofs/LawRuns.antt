@@ -36,9 +36,9 @@ use Rattle.line_laws.proofs.FurtherRight.{line_traces_right}
 use Rattle.line_laws.proofs.FurtherTags.{line_tags_rise}
 use Rattle.line_laws.proofs.IssueRuns.{all_of_one}
 use Rattle.line_laws.proofs.LineRuns.{AreLawful, keys_at, lawful, rises_at, senders_at}
-use Rattle.line_laws.proofs.Readings.{network_ranges}
-use Rattle.line_laws.proofs.Restarting.{again}
-use Rattle.line_laws.proofs.Running.{world_sized}
+use Rattle.line_laws.proofs.StorableGrants.{network_ranges}
+use Rattle.line_laws.proofs.Restarts.{again}
+use Rattle.line_laws.proofs.EveryRun.{world_sized}
 use Rattle.line_laws.proofs.TagRuns.{start_tags}
 
 -- # What the history has

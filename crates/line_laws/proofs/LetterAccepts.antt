@@ -6,7 +6,7 @@ use Rattle.mac_frames.specs.declared.head.MacHead.{MacHead}
 use Rattle.mac_frames.specs.declared.head.MacHead.TheVariants as heads
 use Rattle.mac_frames.specs.Grammar.{header}
 use Rattle.mesh_header.specs.Grammar.{spelling}
-use Rattle.mesh_header.specs.Reading.{unit_in}
+use Rattle.mesh_header.specs.Reader.{unit_in}
 use Rattle.node_rules.specs.declared.heard.Path.TheVariants as paths
 use Rattle.node_rules.specs.Accepted.{Accepted}
 use Rattle.node_rules.specs.Ciphers.{Ciphers}

@@ -8,7 +8,7 @@ use Rattle.mac_frames.proofs.Headers.{header_then-append, length-header}
 use Rattle.mac_frames.specs.Laws.{IsRead}
 use Rattle.mac_frames.proofs.HeadsRead.{frame_read}
 use Rattle.mesh_header.specs.Grammar.{spelling}
-use Rattle.mesh_header.specs.Reading.{unit_in}
+use Rattle.mesh_header.specs.Reader.{unit_in}
 use Rattle.node_rules.specs.Ciphers.{Ciphers}
 use Rattle.node_rules.specs.Frames.{SealedUnit, Sealed, Arrived, arrived_with, head_of, spelled, arrived}
 use Rattle.mesh_header.proofs.Readings.{unit_read}

@@ -7,7 +7,7 @@ use Rattle.plc_base.specs.declared.key.Key.{Key}
 use Rattle.mac_frames.specs.Grammar.{header}
 use Rattle.mac_frames.specs.declared.head.MacHead.TheVariants as heads
 use Rattle.mesh_header.specs.Grammar.{spelling}
-use Rattle.mesh_header.specs.Reading.{unit_in}
+use Rattle.mesh_header.specs.Reader.{unit_in}
 use Rattle.mesh_header.specs.declared.unit.Unit.TheVariants as units
 use Rattle.loadng_messages.specs.Grammar as messages
 use Rattle.loadng_messages.proofs.Readings.{message_read}

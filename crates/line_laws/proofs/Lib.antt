@@ -1,7 +1,7 @@
 pub mod Planned
 pub mod Made
 pub mod HearingForms
-pub mod Keeping
+pub mod KeptMemory
 pub mod Slots
 pub mod Beside
 pub mod StoreWords
@@ -19,7 +19,7 @@ pub mod MarkOrder
 pub mod MarkWrites
 pub mod MarkNodes
 pub mod SizeFold
-pub mod Restarting
+pub mod Restarts
 pub mod StoreMarks
 pub mod Senders
 pub mod Nodes
@@ -44,11 +44,11 @@ pub mod CustodyTrue
 pub mod CustodyDeliver
 pub mod CustodyEvents
 pub mod Answered
-pub mod Rising
+pub mod CounterOrder
 pub mod Worlds
 pub mod NodesOk
 pub mod StepsOk
-pub mod Running
+pub mod EveryRun
 pub mod StepKinds
 pub mod ForgeryRight
 pub mod TracesRight
@@ -72,11 +72,11 @@ pub mod RouteSteps
 pub mod Homes
 pub mod HomeGrants
 pub mod LoopRuns
-pub mod RankTaking
-pub mod CustodyTaking
+pub mod RankGrants
+pub mod CustodyGrants
 pub mod Quiet
 pub mod Frontiers
-pub mod Readings
+pub mod StorableGrants
 pub mod HeadsSaid
 pub mod RangeCoordinator
 pub mod RangeArrives

@@ -32,7 +32,7 @@ use Rattle.line_laws.proofs.FurtherSteps.{line_steps_hold}
 use Rattle.line_laws.proofs.FurtherStepKinds.{line_steps_rise}
 use Rattle.line_laws.proofs.IssueRuns.{EntryFlies, Kept, all_of_one, kept}
 use Rattle.line_laws.proofs.MarkSteps.{Follows}
-use Rattle.line_laws.proofs.Running.{start_ok}
+use Rattle.line_laws.proofs.EveryRun.{start_ok}
 
 -- What holds of a world that was reached, forged or not.
 pub record Stood (w : World) : Type 0 where

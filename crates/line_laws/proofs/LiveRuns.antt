@@ -12,7 +12,7 @@ use Rattle.plc_base.specs.declared.address.Eui.{Eui}
 use Rattle.plc_base.specs.declared.key.Key.{Key}
 use Rattle.store_tables.proofs.SlotTables.{slice_get-set}
 use Rattle.mac_frames.specs.Faults.{frame_fault}
-use Rattle.mac_frames.specs.Reading.{head_in, body_in}
+use Rattle.mac_frames.specs.Reader.{head_in, body_in}
 use Rattle.mac_frames.specs.declared.head.MacHead.{MacHead}
 use Rattle.mac_frames.specs.declared.head.MacHead.TheVariants as heads
 use Rattle.frame_counters.specs.PeerMarks as marks
@@ -25,9 +25,9 @@ use Rattle.node_rules.specs.declared.refusal.FrameRefusal.TheVariants as frames
 use Rattle.node_rules.specs.Ciphers.{Ciphers}
 use Rattle.node_rules.specs.Frames.{Arrived, arrived, arrived_with, to_all}
 use Rattle.node_rules.specs.Memory.{StationMemory, Memory, Role, Coordinator, Meter, Node, address_of, node_address}
-use Rattle.node_rules.specs.StoreReading.{memory_of}
+use Rattle.node_rules.specs.RestartStates.{memory_of}
 use Rattle.node_rules.specs.Plans.{Plan, resting}
-use Rattle.node_rules.specs.Accepting.{Accepting, accept, accept_head, is_for_me, is_own, refuse, marking}
+use Rattle.node_rules.specs.Acceptance.{Accepting, accept, accept_head, is_for_me, is_own, refuse, marking}
 use Rattle.node_rules.specs.NodeSteps.{of_station}
 use Rattle.line_rules.specs.Answers.{frame_word}
 use Rattle.line_events.specs.declared.event.Event.{Event}
@@ -44,8 +44,8 @@ use Rattle.line_laws.specs.Live.{holding, marks_of, admits, book_in, book_of, ho
 use Rattle.line_laws.specs.Owed.{AreOctets, KeepsRanges}
 use Rattle.line_laws.specs.Places.{LiveFalls, first_place, opened_by, opened_at}
 use Rattle.line_laws.specs.Stores.{IsBookKept, IsKept}
-use Rattle.line_laws.proofs.Keeping.{Left}
-use Rattle.line_laws.proofs.Restarting.{again}
+use Rattle.line_laws.proofs.KeptMemory.{Left}
+use Rattle.line_laws.proofs.Restarts.{again}
 use Rattle.line_laws.proofs.MarkOrder.{Raised, raised_admits, room_admits, kept_past}
 use Rattle.line_laws.proofs.MarkNodes.{marks_held}
 use Rattle.line_laws.proofs.MarkSteps.{Follows, heard_marks, entry_follows}
@@ -54,7 +54,7 @@ use Rattle.line_laws.proofs.CoordinatorCalls.{accept_failed, admitted_fits}
 use Rattle.line_laws.proofs.ForgeryRight.{some_passes, any_at}
 use Rattle.line_laws.proofs.Nodes.{NodeOk}
 use Rattle.line_laws.proofs.Worlds.{FlightFits, WorldOk, within as place_within, at_place}
-use Rattle.line_laws.proofs.Running.{taken_good}
+use Rattle.line_laws.proofs.EveryRun.{taken_good}
 use Rattle.line_laws.proofs.AddressBook.{Grows, one_book}
 use Rattle.line_laws.proofs.AddressWorlds.{one_meter, above_nought, meter_address, coordinator_address}
 use Rattle.line_laws.proofs.FlightFolds.{came_octets}

@@ -10,19 +10,19 @@ use Rattle.routing_set.specs.RoutingSet as routing
 use Rattle.mesh_header.specs.declared.unit.Mesh.{Mesh}
 use Rattle.mesh_header.specs.declared.unit.Unit.{Unit as MeshUnit}
 use Rattle.mesh_header.specs.declared.unit.Unit.TheVariants as units
-use Rattle.mesh_header.specs.Reading.{unit_in}
+use Rattle.mesh_header.specs.Reader.{unit_in}
 use Rattle.mesh_header.specs.Pieces.{Placed}
 use Rattle.loadng_messages.specs.declared.message.Message.{Message}
 use Rattle.loadng_messages.specs.declared.message.Message.TheVariants.{Rreq, Rrep, Rerr}
 use Rattle.loadng_messages.specs.Grammar as messages
-use Rattle.loadng_messages.specs.Reading.{message_in}
+use Rattle.loadng_messages.specs.Reader.{message_in}
 use Rattle.node_rules.specs.declared.heard.Path.TheVariants as paths
 use Rattle.node_rules.specs.Accepted.{Accepted}
 use Rattle.node_rules.specs.Frames.{to_all}
 use Rattle.node_rules.specs.Memory.{StationMemory, Load, Datagram, load_octets, address_of, next_hop}
 use Rattle.node_rules.specs.Drafts.{Draft, UnsealedUnit, with_rank, with_own_number, with_next_tag, with_ring, with_routing_by, goes, body_goes, waits, leave}
 use Rattle.node_rules.specs.Drafts.{no_room, numbers_spent}
-use Rattle.node_rules.specs.Hearing.{rank_over, hop_less}
+use Rattle.node_rules.specs.HearingRules.{rank_over, hop_less}
 use Rattle.node_rules.specs.Calls.{near_rank, idled}
 use Rattle.node_rules.specs.Laws.{IsShort}
 

@@ -3,7 +3,7 @@ use Rattle.std.proofs.Common.{◌≡◌, ℕ, true, false, List, [], ◌∷◌, 
 use Rattle.std.specs.Prelude.{nat_lt}
 use Rattle.plc_base.specs.declared.address.Eui.{Eui}
 use Rattle.plc_base.specs.declared.key.Key.{Key}
-use Rattle.plc_base.specs.declared.key.Rand.{Rand}
+use Rattle.plc_base.specs.declared.key.RandomOctets.{RandomOctets}
 use Rattle.plc_base.specs.declared.tags.PairTag.{PairTag}
 use Rattle.plc_base.specs.Grant.{Granted}
 use Rattle.group_keys.specs.declared.key_book.BookEntry.{BookEntry}
@@ -21,13 +21,13 @@ use Rattle.line_laws.proofs.Made.{RingWord, Given, Made}
 pub data Beside (E : Eui → Type 0) (m : Memory) : Memory → Type 0 where
   Ends : Beside E m (meters.with_session None m)
   Asks : (s : MeterSession) → Beside E m (meters.with_session (Some s) m)
-  Replies : (s : MeterSession) (value : Rand) → oldest m ≡ Some value → Beside E m (meters.with_session (Some s) (without_oldest m))
-  Opens : (s : CoordinatorSession) (value : Rand) → oldest m ≡ Some value → coordinators.sessions_full m s.server.eui ≡ false → E s.server.eui
+  Replies : (s : MeterSession) (value : RandomOctets) → oldest m ≡ Some value → Beside E m (meters.with_session (Some s) (without_oldest m))
+  Opens : (s : CoordinatorSession) (value : RandomOctets) → oldest m ≡ Some value → coordinators.sessions_full m s.server.eui ≡ false → E s.server.eui
       → Beside E m (coordinators.with_session s (without_oldest m))
   Answers : (s t : CoordinatorSession) (eui : Eui) → coordinators.session_of m eui ≡ Some t → s.server.eui ≡ t.server.eui
       → Beside E m (coordinators.with_session s m)
   Closes : (eui : Eui) → Beside E m (coordinators.without_session eui m)
-  Gives : (value : Rand) → nat_lt 7 (length m.randoms) ≡ false → Beside E m (record m { randoms = m.randoms ++ value ∷ [] })
+  Gives : (value : RandomOctets) → nat_lt 7 (length m.randoms) ≡ false → Beside E m (record m { randoms = m.randoms ++ value ∷ [] })
 
 -- an EUI that a call is given, or that of a session
 pub data EuiFrom (E : Eui → Type 0) (m : Memory) : Eui → Type 0 where

@@ -5,20 +5,20 @@ use Rattle.plc_base.specs.Keeper.{Records, Write}
 use Rattle.store_tables.specs.Writes.{puts_of}
 use Rattle.store_tables.specs.LeadingPuts.{PutsLead}
 use Rattle.store_tables.specs.SlotTables as slots
-use Rattle.store_tables.proofs.Opening.{reopened}
+use Rattle.store_tables.proofs.OpenedTables.{reopened}
 use Rattle.frame_counters.specs.PeerMarks as marks
 use Rattle.frame_counters.specs.Laws.{AreMarksIn}
-use Rattle.frame_counters.proofs.Leading.{admission_leads}
+use Rattle.frame_counters.proofs.AdmissionPuts.{admission_leads}
 use Rattle.node_rules.specs.Memory.{Memory, Role}
 use Rattle.node_rules.specs.MemoryDrafts.{with_station}
-use Rattle.node_rules.specs.StoreReading.{memory_of}
+use Rattle.node_rules.specs.RestartStates.{memory_of}
 use Rattle.line_rules.specs.Steps.{memory_by}
 use Rattle.line_laws.specs.Live.{marks_in}
 use Rattle.line_laws.specs.Stores.{IsKept}
-use Rattle.line_laws.proofs.Keeping.{Leads, leads_beside, leads_one, Left}
+use Rattle.line_laws.proofs.KeptMemory.{Leads, leads_beside, leads_one, Left}
 use Rattle.line_laws.proofs.MarkOrder.{Raised, raised_same, raised_trans, rest_raised, kept_covered, kept_raised}
 use Rattle.line_laws.proofs.MarkWrites.{MarksFrom}
-use Rattle.line_laws.proofs.Restarting.{Again, again}
+use Rattle.line_laws.proofs.Restarts.{Again, again}
 pub use Rattle.line_laws.specs.Lines.{AreCovered}
 
 -- # A counter that is admitted

@@ -10,11 +10,11 @@ use Rattle.std.proofs.lemmas.List.Sums.{position_or_len_is}
 use Rattle.std.proofs.lemmas.List.Elements.{All-push, All-set}
 use Rattle.store_tables.proofs.SlotTables.{found, apart, same_place, place_of-set, place_of-push}
 use Rattle.frame_counters.specs.declared.fault.PeerFault.TheVariants.{Replayed, PeersFull}
-use Rattle.frame_counters.specs.PeerMarks.{Peer}
+use Rattle.frame_counters.specs.PeerMarks.{PeerMark}
 use Rattle.frame_counters.specs.PeerMarks as marks
 use Rattle.line_laws.specs.Live.{admits}
 
-abbrev no_peer : Peer
+abbrev no_peer : PeerMark
 no_peer = record { address = 0; mark = 0; stored = 0 }
 
 -- Each sender that is held stays at its place, and its mark does not fall.
@@ -61,26 +61,26 @@ rest_raised t covered = record {
       ≡ marks.at_rest (marks.peer_at t place) = get_or-map marks.at_rest t place no_peer no_peer there.0 in
       let over : (marks.peer_at t place).mark ≤ (marks.peer_at t place).stored = covered place no_peer there.0 in (
         same_place marks.peers t (map marks.at_rest t) no_peer from place (omega arith)
-            (λ k h. ap (λ (p : Peer). p.address) (get_or-map marks.at_rest t k no_peer no_peer h)) at,
-        subst (λ (p : Peer). (marks.peer_at t place).mark ≤ p.mark) (sym rests) over,
+            (λ k h. ap (λ (p : PeerMark). p.address) (get_or-map marks.at_rest t k no_peer no_peer h)) at,
+        subst (λ (p : PeerMark). (marks.peer_at t place).mark ≤ p.mark) (sym rests) over,
       );
 }
 
 pub rest_covered : (t : marks.Table) → marks.IsCovered (map marks.at_rest t)
 rest_covered t place d within =
     let same = get_or-map marks.at_rest t place d d (omega (arith, length-map t marks.at_rest)) in
-    subst (λ (p : Peer). p.mark ≤ p.stored) (sym same) (omega arith)
+    subst (λ (p : PeerMark). p.mark ≤ p.stored) (sym same) (omega arith)
 
 -- # A counter that is admitted
 
 module _ (t : marks.Table) (from counter : ℕ) (fits : counter < 2 ^ 32) where
   -- the entry that a sender has afterwards
-  advanced_is : (p : Peer) → p.address ≡ from
+  advanced_is : (p : PeerMark) → p.address ≡ from
       → ((marks.advanced p from counter).address ≡ from) × ((marks.advanced p from counter).mark ≡ counter)
       × ((marks.advanced p from counter).mark ≤ (marks.advanced p from counter).stored)
   advanced_is p same = by_stored (nat_le counter p.stored) refl
     where
-      by_stored : (b : Bool) → nat_le counter p.stored ≡ b → let q : Peer = (if b then record p { mark = counter } else marks.peer_ahead from counter) in
+      by_stored : (b : Bool) → nat_le counter p.stored ≡ b → let q : PeerMark = (if b then record p { mark = counter } else marks.peer_ahead from counter) in
           (q.address ≡ from) × (q.mark ≡ counter) × (q.mark ≤ q.stored)
       by_stored true e = (same, refl, grind (arith, nat_tests))
       by_stored false e = (refl, refl, omega arith)
@@ -113,10 +113,10 @@ module _ (t : marks.Table) (from counter : ℕ) (fits : counter < 2 ^ 32) where
       by_place : (o : Option ℕ) → marks.place_of t from ≡ o
           → marks.IsCovered (option_map_or (λ place. set t place (marks.advanced (marks.peer_at t place) from counter)) o
           (t ++ marks.peer_ahead from counter ∷ []))
-      by_place None e = All-push (λ (p : Peer). p.mark ≤ p.stored) t (marks.peer_ahead from counter) covered ahead_covered
+      by_place None e = All-push (λ (p : PeerMark). p.mark ≤ p.stored) t (marks.peer_ahead from counter) covered ahead_covered
       by_place (Some place) e =
           let there = found marks.peers t from place no_peer e in
-          All-set (λ (p : Peer). p.mark ≤ p.stored) t place (marks.advanced (marks.peer_at t place) from counter)
+          All-set (λ (p : PeerMark). p.mark ≤ p.stored) t place (marks.advanced (marks.peer_at t place) from counter)
           (advanced_is (marks.peer_at t place) there.1).2 covered
 
   pub kept_raised : marks.room_for t from counter ≡ Ok (tt {0}) → Raised t (marks.kept_after t from counter)
@@ -130,7 +130,7 @@ module _ (t : marks.Table) (from counter : ℕ) (fits : counter < 2 ^ 32) where
             let same : marks.peer_at (t ++ marks.peer_ahead from counter ∷ []) at
             ≡ marks.peer_at t at = get_or_append_left t (marks.peer_ahead from counter ∷ []) no_peer at there.0 in (
               place_of-push marks.peers t (marks.peer_ahead from counter) key at is,
-              subst (λ (p : Peer). (marks.peer_at t at).mark ≤ p.mark) (sym same) (omega arith),
+              subst (λ (p : PeerMark). (marks.peer_at t at).mark ≤ p.mark) (sym same) (omega arith),
             );
       }
       by_place (Some place) e =
@@ -145,13 +145,13 @@ module _ (t : marks.Table) (from counter : ℕ) (fits : counter < 2 ^ 32) where
             );
           }
         where
-          by_same : (key at : ℕ) → marks.place_of t key ≡ Some at → (place : ℕ) (p : Peer) → place < length t → (marks.peer_at t place).mark ≤ p.mark
+          by_same : (key at : ℕ) → marks.place_of t key ≡ Some at → (place : ℕ) (p : PeerMark) → place < length t → (marks.peer_at t place).mark ≤ p.mark
               → (at ≡ place) ⊎ (at ≢ place) → (marks.peer_at t at).mark ≤ (marks.peer_at (set t place p) at).mark
           by_same key at is place p within low (inl same) =
               subst (λ (k : ℕ). (marks.peer_at t k).mark ≤ (marks.peer_at (set t place p) k).mark) (sym same)
-              (subst (λ (q : Peer). (marks.peer_at t place).mark ≤ q.mark) (sym (get_or-set_same t place p no_peer within)) low)
+              (subst (λ (q : PeerMark). (marks.peer_at t place).mark ≤ q.mark) (sym (get_or-set_same t place p no_peer within)) low)
           by_same key at is place p within low (inr other) =
-              subst (λ (q : Peer). (marks.peer_at t at).mark ≤ q.mark) (sym (get_or-set_other t place at p no_peer other)) (omega arith)
+              subst (λ (q : PeerMark). (marks.peer_at t at).mark ≤ q.mark) (sym (get_or-set_other t place at p no_peer other)) (omega arith)
 
   past_at : (u : marks.Table) (place : ℕ) → marks.place_of u from ≡ Some place → (marks.peer_at u place).mark ≡ counter → admits u from counter ≡ false
   past_at u place at is =
@@ -162,10 +162,10 @@ module _ (t : marks.Table) (from counter : ℕ) (fits : counter < 2 ^ 32) where
   new_place : marks.place_of t from ≡ None → marks.place_of (t ++ marks.peer_ahead from counter ∷ []) from ≡ Some (length t)
   new_place e =
       let long = length-append t (marks.peer_ahead from counter ∷ []) in
-      let first = position_or_len_is (λ (p : Peer). p.address == from) (t ++ marks.peer_ahead from counter ∷ []) (length t) no_peer (omega arith)
-      (λ k h. ap (λ (q : Peer). q.address == from) (get_or_append_left t (marks.peer_ahead from counter ∷ []) no_peer k h)
+      let first = position_or_len_is (λ (p : PeerMark). p.address == from) (t ++ marks.peer_ahead from counter ∷ []) (length t) no_peer (omega arith)
+      (λ k h. ap (λ (q : PeerMark). q.address == from) (get_or_append_left t (marks.peer_ahead from counter ∷ []) no_peer k h)
       ∙ ne_eqb _ _ (apart marks.peers t from (ap is_some e) k no_peer h))
-      (λ h. ap (λ (q : Peer). q.address == from) (get_or_push t (marks.peer_ahead from counter) no_peer (length t) refl) ∙ eq-eqb from from refl) in
+      (λ h. ap (λ (q : PeerMark). q.address == from) (get_or_push t (marks.peer_ahead from counter) no_peer (length t) refl) ∙ eq-eqb from from refl) in
       let inside : nat_lt (length t) (length (t ++ marks.peer_ahead from counter ∷ [])) ≡ true = grind (arith, nat_tests, long) in
       rw (first, inside) refl
 
@@ -177,10 +177,10 @@ module _ (t : marks.Table) (from counter : ℕ) (fits : counter < 2 ^ 32) where
           → admits (option_map_or (λ place. set t place (marks.advanced (marks.peer_at t place) from counter)) o (t ++ marks.peer_ahead from counter ∷ [])) from
           counter ≡ false
       by_place None e = past_at (t ++ marks.peer_ahead from counter ∷ []) (length t) (new_place e)
-          (ap (λ (p : Peer). p.mark) (get_or_push t (marks.peer_ahead from counter) no_peer (length t) refl))
+          (ap (λ (p : PeerMark). p.mark) (get_or_push t (marks.peer_ahead from counter) no_peer (length t) refl))
       by_place (Some place) e =
           let there = found marks.peers t from place no_peer e in
           let p = marks.advanced (marks.peer_at t place) from counter in
           let is_it = advanced_is (marks.peer_at t place) there.1 in
           past_at (set t place p) place (place_of-set marks.peers t p place from place (ap (marks.place_of t) is_it.0 ∙ e) e)
-          (ap (λ (q : Peer). q.mark) (get_or-set_same t place p no_peer there.0) ∙ is_it.1)
+          (ap (λ (q : PeerMark). q.mark) (get_or-set_same t place p no_peer there.0) ∙ is_it.1)

@@ -24,7 +24,7 @@ use Rattle.node_rules.specs.Ciphers.{Ciphers}
 use Rattle.node_rules.specs.Frames.{arrived}
 use Rattle.node_rules.specs.Memory.{Memory, Role, Coordinator, Meter, Node}
 use Rattle.node_rules.specs.Plans.{Plan}
-use Rattle.node_rules.specs.Accepting.{accept}
+use Rattle.node_rules.specs.Acceptance.{accept}
 use Rattle.node_rules.specs.Calls as calls
 use Rattle.node_rules.specs.Meters as meters
 use Rattle.node_rules.specs.Coordinators as coordinator_rules
@@ -48,7 +48,7 @@ use Rattle.line_laws.proofs.Nodes.{PlanOk, NodeOk, DidFits, DidOk, acts_fits, ac
 use Rattle.line_laws.proofs.NodeCalls.{RoutesFit, random_ok, join_ok, leave_ok, send_ok, near_ok, counter_ok, number_ok, broke_ok, provision_ok}
 use Rattle.line_laws.proofs.CoordinatorCalls.{accept_ok, accept_failed, accepted_routes, allow_ok, depot_ok, depot_failed, rekey_ok, activate_self_ok}
 use Rattle.line_laws.proofs.CoordinatorCalls.{challenge_ok, activate_ok, kick_ok}
-use Rattle.line_laws.proofs.Readings.{held}
+use Rattle.line_laws.proofs.StorableGrants.{held}
 use Rattle.line_laws.proofs.StoreMarks.{accept_is}
 use Rattle.line_laws.proofs.Answered.{acts_answered, depot_grants}
 use Rattle.line_laws.proofs.Worlds.{NodeFits, FlightFits, WorldOk, within as place_within, at_place}

@@ -22,7 +22,7 @@ use Rattle.node_rules.specs.Drafts.{Draft, Ends, empty_draft, counted, with_rank
 use Rattle.node_rules.specs.Drafts.{waits, leave}
 use Rattle.node_rules.specs.MemoryDrafts.{in_memory, on_station, station_part, with_memory_by, with_pair_tags, goes_up, goes_down}
 use Rattle.node_rules.specs.Coordinators.{with_book_entry}
-use Rattle.line_laws.proofs.Keeping.{Leads}
+use Rattle.line_laws.proofs.KeptMemory.{Leads}
 use Rattle.line_laws.proofs.Slots.{marks_stay}
 use Rattle.line_laws.proofs.MarkOrder.{Raised}
 use Rattle.line_laws.proofs.Planned.{Planned, Refuses, Keeps, Ended}

@@ -24,9 +24,9 @@ use Rattle.broadcast_log.specs.Grammar.{Spells, spelling}
 use Rattle.broadcast_log.specs.Log.{Log, admitted_log, numbered_log, opened}
 use Rattle.broadcast_log.specs.NextNumber.{is_spent, number_put}
 use Rattle.broadcast_log.specs.OriginMarks.{keep_write, marks, room_for}
-use Rattle.broadcast_log.specs.Reading.{broadcast_in}
+use Rattle.broadcast_log.specs.Reader.{broadcast_in}
 use Rattle.broadcast_log.specs.Runs.{Runs, admits, begins, elsewhere, numbers, restarts as opens_again}
-use Rattle.broadcast_log.proofs.Reopening.{reopens}
+use Rattle.broadcast_log.proofs.ReopenedLogs.{reopens}
 use Rattle.broadcast_log.proofs.Spellings.{broadcast_spelled}
 use Rattle.frame_counters.specs.SendCounter as counter
 use Rattle.neighbour_checks.specs.Acks.{ack_in}
@@ -38,8 +38,8 @@ use Rattle.path_requests.specs.declared.step.PathStep.{PathStep}
 use Rattle.path_requests.specs.declared.step.PathStep.TheVariants.{Forward, Answer, Done}
 use Rattle.path_requests.specs.declared.step.PathRefusal.{PathRefusal}
 use Rattle.path_requests.specs.Messages.{path_spelling}
-use Rattle.path_requests.specs.Reading.{path_in}
-use Rattle.path_requests.specs.Taking.{taken}
+use Rattle.path_requests.specs.Reader.{path_in}
+use Rattle.path_requests.specs.PathSteps.{taken}
 use Rattle.node_rules.specs.declared.refusal.Dropped.TheVariants as drops
 use Rattle.node_rules.specs.Drafts.{Draft, Ends, checked, choose, counters_left, empty_draft, refused, sealed, sealing}
 use Rattle.node_rules.specs.Frames.{to_all}
@@ -63,9 +63,9 @@ use Rattle.reach_rules.specs.Beacons.{choose_agent, choosing_ends, joins_by}
 use Rattle.reach_rules.specs.Broadcasts.{admits_broadcast, broadcast, broadcast_ends, broadcast_fault, broadcast_from, datagram_fault, goes_further}
 use Rattle.reach_rules.specs.Broadcasts.{hear_broadcast_in, hop_less, mark_fault, own_broadcast, with_broadcast_mark, with_broadcast_number}
 use Rattle.reach_rules.specs.CheckedReplies.{hear_acknowledgement_in}
-use Rattle.reach_rules.specs.PathAsking.{ask_ends, ask_path, asks_by, asks_from, follows_path, hear_path_in, next_toward, path_word}
+use Rattle.reach_rules.specs.PathRequests.{ask_ends, ask_path, asks_by, asks_from, follows_path, hear_path_in, next_toward, path_word}
 use Rattle.reach_rules.specs.ReachingNodes.{Beside, Reaching, drop_it, in_reach, nothing_beside, reach_ends, restarted_by, adds_local}
-use Rattle.reach_rules.specs.Receiving.{NeighbourCommand, hear_command, hear_command_at}
+use Rattle.reach_rules.specs.FurtherReceptions.{NeighbourCommand, hear_command, hear_command_at}
 use Rattle.line_events.specs.declared.happenings.BroadcastUp.{BroadcastUp}
 use Rattle.line_rules.specs.Further.{beside_after, broadcast_up, reaches, with_beside, without_log}
 use Rattle.line_rules.specs.Runs.{one_of}

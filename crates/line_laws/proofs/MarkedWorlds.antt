@@ -18,7 +18,7 @@ use Rattle.node_rules.specs.declared.refusal.FrameRefusal.TheVariants as frames
 use Rattle.node_rules.specs.declared.refusal.LocalRefusal.TheVariants as locals
 use Rattle.node_rules.specs.declared.refusal.SendRefusal.{SendRefusal}
 use Rattle.node_rules.specs.declared.refusal.SendRefusal.TheVariants as sends
-use Rattle.node_rules.specs.Accepting.{accept}
+use Rattle.node_rules.specs.Acceptance.{accept}
 use Rattle.node_rules.specs.Calls as calls
 use Rattle.node_rules.specs.Ciphers.{Ciphers, network}
 use Rattle.node_rules.specs.Coordinators as coordinator_rules
@@ -30,7 +30,7 @@ use Rattle.node_rules.specs.Meters as meters
 use Rattle.node_rules.specs.NodeSteps.{NodeStep, acts, answering, changing, of_station, stays}
 use Rattle.node_rules.specs.Plans.{Plan, resting}
 use Rattle.node_rules.specs.Replies.{reply_among}
-use Rattle.node_rules.specs.StoreReading.{blank_station, first_grant, remembering}
+use Rattle.node_rules.specs.RestartStates.{blank_station, first_grant, remembering}
 use Rattle.node_rules.specs.Tables.{HasShortTables}
 use Rattle.node_rules.proofs.LogPuts.{coordinators_leave_log, meters_leave_log, stations_leave_log}
 use Rattle.std.proofs.lemmas.List.Elements.{All-nil}
@@ -44,9 +44,9 @@ use Rattle.reach_rules.specs.declared.refusal.ReachDropped.{ReachDropped}
 use Rattle.reach_rules.specs.Beacons.{begin_scan, choose_agent, hear_discovery}
 use Rattle.reach_rules.specs.Broadcasts.{broadcast}
 use Rattle.reach_rules.specs.CheckedReplies.{acknowledges, checks_after, message_of}
-use Rattle.reach_rules.specs.PathAsking.{ask_path}
+use Rattle.reach_rules.specs.PathRequests.{ask_path}
 use Rattle.reach_rules.specs.ReachingNodes.{Beside, Reaching, nothing_beside, tick_beside}
-use Rattle.reach_rules.specs.Receiving.{NeighbourCommand, command_of, hear_command}
+use Rattle.reach_rules.specs.FurtherReceptions.{NeighbourCommand, command_of, hear_command}
 use Rattle.line_rules.specs.Answers.{Reception, coordinator_reception, meter_reception, sent_word}
 use Rattle.line_events.specs.declared.event.Answer.{Answer}
 use Rattle.line_events.specs.declared.event.Answer.TheVariants as answers
@@ -67,7 +67,7 @@ use Rattle.plc_base.specs.Fields.{AreOctets}
 use Rattle.plc_base.specs.Grant.{Granted}
 use Rattle.broadcast_log.specs.Log.{Log}
 use Rattle.line_laws.specs.Lines.{FlightFits, WorldOk}
-use Rattle.line_laws.proofs.Readings.{network_ranges}
+use Rattle.line_laws.proofs.StorableGrants.{network_ranges}
 use Rattle.line_laws.proofs.FurtherSteps.{tables_short}
 use Rattle.line_laws.proofs.FurtherLogs.{commands_fit}
 use Rattle.line_laws.proofs.MarkedLogs.{MarkedIn, PlanMarks, ask_marks, blank_marks, broadcast_marks, choice_marks, command_marks, further_marks}

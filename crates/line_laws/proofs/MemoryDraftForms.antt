@@ -9,9 +9,9 @@ use Rattle.node_rules.specs.declared.heard.Heard.{Heard}
 use Rattle.node_rules.specs.Memory.{StationMemory, Memory}
 use Rattle.node_rules.specs.Plans.{resting, within}
 use Rattle.node_rules.specs.Drafts.{Draft, Lack, alone, lack}
-use Rattle.node_rules.specs.Hearing.{Hearing, dropped, dropped_for}
+use Rattle.node_rules.specs.HearingRules.{Hearing, dropped, dropped_for}
 use Rattle.node_rules.specs.MemoryDrafts.{with_station, in_memory, command_lack}
-use Rattle.node_rules.specs.Joining.{command_of}
+use Rattle.node_rules.specs.JoiningPackets.{command_of}
 use Rattle.node_rules.proofs.Words.{IsDone, of_station_done}
 use Rattle.node_rules.proofs.MemoryDraftShapes.{whole, reading}
 use Rattle.line_laws.proofs.Planned.{Planned, Refuses, Keeps, Ended}

@@ -1,16 +1,16 @@
 -- How the plan of each rule of a meter is made.
 use Rattle.node_rules.specs.declared.heard.MeterHeard.{MeterHeard}
-use Rattle.node_rules.specs.Joining.{command_of}
+use Rattle.node_rules.specs.JoiningPackets.{command_of}
 use Rattle.std.proofs.Common.{◌≡◌, ℕ, List, [], ◌∷◌, ◌≤◌, Option, Some, None, Result, length, refl, arith}
 use Rattle.std.specs.Option.{option_map}
 use Rattle.plc_base.specs.declared.address.Eui.{Eui}
 use Rattle.plc_base.specs.declared.key.Key.{Key}
-use Rattle.plc_base.specs.declared.key.Rand.{Rand}
+use Rattle.plc_base.specs.declared.key.RandomOctets.{RandomOctets}
 use Rattle.plc_base.specs.Grant.{Granted}
 use Rattle.joining_messages.specs.declared.message.JoinMessage.{JoinMessage}
 use Rattle.joining_messages.specs.declared.message.JoinBody.{JoinBody}
 use Rattle.joining_messages.specs.declared.message.JoinBody.TheVariants as body
-use Rattle.joining_messages.specs.Reading.{join_in}
+use Rattle.joining_messages.specs.Reader.{join_in}
 use Rattle.eap_psk.specs.Faults.{first_fault}
 use Rattle.eap_psk.specs.Messages.{granting_text}
 use Rattle.eap_psk.specs.Tags.{mac_p_tag, mac_s_tag, granting_tag, success_tag}
@@ -25,9 +25,9 @@ use Rattle.node_rules.specs.declared.refusal.Dropped.TheVariants.{BadUnit, NoSes
 use Rattle.node_rules.specs.Memory.{StationMemory, Memory, Command, MeterSession, SessionWay, ByAgent, ByCommand, address_of, next_hop}
 use Rattle.node_rules.specs.Plans.{Plan}
 use Rattle.node_rules.specs.Drafts.{Draft, UnsealedUnit, alone, empty_draft, checked, with_ring}
-use Rattle.node_rules.specs.Hearing as station_rules
-use Rattle.node_rules.specs.Hearing.{dropped}
-use Rattle.node_rules.specs.Joining.{message}
+use Rattle.node_rules.specs.HearingRules as station_rules
+use Rattle.node_rules.specs.HearingRules.{dropped}
+use Rattle.node_rules.specs.JoiningPackets.{message}
 use Rattle.eap_psk.specs.Sessions.{peer_for, identifier_of}
 use Rattle.node_rules.specs.MemoryDrafts.{in_memory, goes_up, goes_down, oldest, without_oldest, Unread, unread, packet_fault, with_memory_by, with_pair_tags}
 use Rattle.node_rules.specs.MemoryDrafts.{on_station}
@@ -79,7 +79,7 @@ pub record IsOrdered (index : ℕ) : Type 0 where
 -- what a meter says to the coordinator: a message that it carries for another one, its second packet, and its fourth
 pub data IsSaidUp (x : Identity) (m : Memory) : JoinMessage → Type 0 where
   OfOther : (octets : List ℕ) (join : JoinMessage) → join_in octets ≡ Some join → IsSaidUp x m join
-  Second : (packet : List ℕ) (value : Rand) → oldest m ≡ Some value
+  Second : (packet : List ℕ) (value : RandomOctets) → oldest m ≡ Some value
       → IsSaidUp x m (message x.eui (body.Join (x.ciphers.second x.psk (identifier_of packet) (peer_for x.eui value packet))))
   Fourth : (packet : List ℕ) (s : MeterSession) (peer : Peer) → m.session ≡ Some s → s.peer ≡ Some peer
       → IsSaidUp x m (message x.eui (body.Join (x.ciphers.fourth x.psk (identifier_of packet) peer)))
@@ -139,7 +139,7 @@ module _ (L : Granted → Type 0) (P : Eui → Key → Type 0) (E : Eui → Type
   replied session_way peer = with_pair_tags (mac_p_tag peer.eui peer.id_s peer.rand_s peer.rand_p ∷ []) []
       (with_memory_by (λ n. with_session (Some (record { session_way = session_way; peer = Some peer; since = g.now })) (without_oldest n)) (empty_draft m))
 
-  replied_made : (session_way : SessionWay) (peer : Peer) (value : Rand) → oldest m ≡ Some value → MadeHere (replied session_way peer)
+  replied_made : (session_way : SessionWay) (peer : Peer) (value : RandomOctets) → oldest m ≡ Some value → MadeHere (replied session_way peer)
   unfolding empty_draft
   replied_made session_way peer value here = Tags _ _ _
       (Remembers (λ n. with_session (Some (record { session_way = session_way; peer = Some peer; since = g.now })) (without_oldest n)) (empty_draft m) Begins
@@ -150,7 +150,7 @@ module _ (L : Granted → Type 0) (P : Eui → Key → Type 0) (E : Eui → Type
   unfolding empty_draft with_memory_by with_pair_tags
   replied_lacks session_way peer octets f = f
 
-  replies_is : (session_way : SessionWay) (peer : Peer) (join : JoinMessage) (value : Rand) → IsSaidUp x m join → oldest m ≡ Some value
+  replies_is : (session_way : SessionWay) (peer : Peer) (join : JoinMessage) (value : RandomOctets) → IsSaidUp x m join → oldest m ≡ Some value
       → Is (replies m session_way peer join g.now)
   replies_is (ByAgent agent) peer join value said here =
       checked_planned (λ e. sealed_planned _ _ (Up _ _ _ _ (replied_made (ByAgent agent) peer value here), search memory_leaves depth 16, tt))

@@ -9,13 +9,13 @@ use Rattle.plc_base.specs.Fields.{AreOctets, part}
 use Rattle.plc_base.proofs.Places.{octet_low}
 use Rattle.plc_base.specs.declared.address.Eui.{Eui}
 use Rattle.plc_base.specs.declared.key.Key.{Key}
-use Rattle.plc_base.specs.declared.key.Rand.{Rand}
+use Rattle.plc_base.specs.declared.key.RandomOctets.{RandomOctets}
 use Rattle.plc_base.specs.Grant.{Granted}
 use Rattle.group_keys.specs.KeyRing as ring
 use Rattle.joining_messages.specs.declared.message.JoinMessage.{JoinMessage}
 use Rattle.joining_messages.specs.declared.message.JoinBody.{JoinBody}
 use Rattle.joining_messages.specs.declared.message.JoinBody.TheVariants as body
-use Rattle.joining_messages.specs.Reading.{join_in}
+use Rattle.joining_messages.specs.Reader.{join_in}
 use Rattle.eap_psk.specs.Faults.{first_fault}
 use Rattle.eap_psk.specs.Messages.{granting_text}
 use Rattle.eap_psk.specs.Tags.{mac_p_tag, mac_s_tag, granting_tag, success_tag}
@@ -33,9 +33,9 @@ use Rattle.node_rules.specs.Ciphers.{network}
 use Rattle.node_rules.specs.Memory.{StationMemory, Memory, MeterSession, SessionWay, ByAgent, ByCommand, address_of}
 use Rattle.node_rules.specs.Plans.{Plan}
 use Rattle.node_rules.specs.Drafts.{Draft, alone, empty_draft, checked, with_ring}
-use Rattle.node_rules.specs.Hearing as station_rules
-use Rattle.node_rules.specs.Hearing.{dropped}
-use Rattle.node_rules.specs.Joining.{message}
+use Rattle.node_rules.specs.HearingRules as station_rules
+use Rattle.node_rules.specs.HearingRules.{dropped}
+use Rattle.node_rules.specs.JoiningPackets.{message}
 use Rattle.node_rules.specs.MemoryDrafts.{goes_down, oldest, without_oldest, Unread, unread, packet_fault, with_memory_by, with_pair_tags, on_station}
 use Rattle.node_rules.specs.Meters.{Identity, with_session, drop_it, ends, leaves, carry_up, carries_down, carry_down, reply_with, reply, replies, take_with}
 use Rattle.node_rules.specs.Meters.{take_by, take, takes, challenged, declined, kicked, activated, hear_near, hear_order, hear_join, hear_join_in, heard_by}
@@ -58,7 +58,7 @@ use Rattle.line_laws.proofs.OctetDrafts.{sealed_speaks, sealing_speaks, line_spe
 use Rattle.line_laws.proofs.OctetDrafts.{ringed_speaks, commanded_speaks}
 use Rattle.line_laws.proofs.Planned.{Planned}
 use Rattle.joining_messages.proofs.JoinRanges.{read_fits}
-use Rattle.line_laws.proofs.Readings.{network_ranges}
+use Rattle.line_laws.proofs.StorableGrants.{network_ranges}
 use Rattle.line_laws.proofs.StoreFold.{WordFits, ring_fits}
 use Rattle.line_laws.proofs.Worlds.{at_place}
 
@@ -82,7 +82,7 @@ unfolding part
 part_short at n octets = omega (arith, length-take n (drop at octets))
 
 -- the oldest random value
-pub oldest_speaks : (m : Memory) (value : Rand) → MemorySpeaks m → oldest m ≡ Some value → RandSpeaks value
+pub oldest_speaks : (m : Memory) (value : RandomOctets) → MemorySpeaks m → oldest m ≡ Some value → RandSpeaks value
 oldest_speaks m value h e = at_place RandSpeaks m.randoms 0 value e h.randoms
 
 module _ (eui : Eui) (psk : Key) (own : HasEui eui) (pair : AreOctets psk.0) (m : Memory) (h : MemorySpeaks m) (reads : IfSome m.station.ring IsReadable)

@@ -12,7 +12,7 @@ use Rattle.line_laws.proofs.Nodes.{NodeOk}
 use Rattle.line_laws.proofs.OctetCalls.{NodeSpeaks}
 use Rattle.line_laws.proofs.OctetDrafts.{BodySpeaks, MemorySpeaks, IsCommandShort}
 use Rattle.line_laws.proofs.OctetRuns.{WorldSpeaks}
-use Rattle.line_laws.proofs.Running.{node_sized}
+use Rattle.line_laws.proofs.EveryRun.{node_sized}
 use Rattle.line_laws.proofs.Worlds.{WorldOk}
 
 is_load : (load : Load) → IsAnyLoad load → IsCommandShort load → IsLoad load

@@ -6,7 +6,7 @@ use Rattle.std.proofs.lemmas.Option.{same_Some}
 use Rattle.plc_base.specs.Keeper.{Records}
 use Rattle.plc_base.specs.declared.address.Eui.{Eui}
 use Rattle.plc_base.specs.declared.key.Key.{Key}
-use Rattle.plc_base.specs.declared.key.Rand.{Rand}
+use Rattle.plc_base.specs.declared.key.RandomOctets.{RandomOctets}
 use Rattle.plc_base.specs.Grant.{Granted}
 use Rattle.frame_counters.specs.SendCounter as counter
 use Rattle.group_keys.specs.declared.key_book.BookEntry.{BookEntry}
@@ -15,9 +15,9 @@ use Rattle.group_keys.specs.KeyBook as book
 use Rattle.loadng_messages.specs.declared.message.Message.{Message}
 use Rattle.loadng_messages.specs.declared.message.Message.TheVariants.{Rreq, Rrep}
 use Rattle.loadng_messages.specs.Grammar.{IsMessage}
-use Rattle.loadng_messages.specs.Reading.{message_in}
+use Rattle.loadng_messages.specs.Reader.{message_in}
 use Rattle.mesh_header.specs.declared.unit.Unit.TheVariants as units
-use Rattle.mesh_header.specs.Reading.{unit_in}
+use Rattle.mesh_header.specs.Reader.{unit_in}
 use Rattle.routing_set.specs.declared.rank.Rank.{Rank}
 use Rattle.routing_set.specs.RoutingSet as routing
 use Rattle.routing_set.specs.OwnNumber as own_number
@@ -29,7 +29,7 @@ use Rattle.node_rules.specs.Ciphers.{Ciphers}
 use Rattle.node_rules.specs.Memory.{Load, Datagram, StationMemory, Memory, Role, Coordinator}
 use Rattle.node_rules.specs.Plans.{Plan, resting}
 use Rattle.node_rules.specs.Drafts.{Draft, Ends, alone, empty_draft}
-use Rattle.node_rules.specs.Hearing.{dropped}
+use Rattle.node_rules.specs.HearingRules.{dropped}
 use Rattle.node_rules.specs.MemoryDrafts.{in_memory, with_station, give_random, given_ends}
 use Rattle.node_rules.specs.Calls as calls
 use Rattle.node_rules.specs.Meters as meters
@@ -39,7 +39,7 @@ use Rattle.line_laws.specs.Stores.{IsHeld, IsReadable, IsStationKept, IsKept}
 use Rattle.line_laws.specs.Sizes.{IsAnyLoad, IsMemorySized}
 use Rattle.line_laws.specs.Owed.{AreOctets, KeepsRanges}
 use Rattle.joining_messages.proofs.JoinRanges.{read_fits}
-use Rattle.line_laws.proofs.Keeping.{leads_beside}
+use Rattle.line_laws.proofs.KeptMemory.{leads_beside}
 use Rattle.line_laws.proofs.Beside.{low_one}
 use Rattle.line_laws.proofs.StoreWords.{limit_kept, number_kept}
 use Rattle.line_laws.proofs.StoreRanks.{EntryFits}
@@ -284,7 +284,7 @@ module _ (role : Role) (m : Memory) (h : IsMemorySized m) where
   provision_ok granted fits = station_ok role (Given1 granted) (installed granted fits) (call_given 0 0 0) m (call_offers 0 0 0) calls.ringing_ends _
       (install_is (Given1 granted) (call_given 0 0 0) m.station granted refl) h
 
-  pub random_ok : (value : Rand) → PlanOk role m (give_random m value)
+  pub random_ok : (value : RandomOctets) → PlanOk role m (give_random m value)
   random_ok value = bookless_ok role NoWord never (call_given 0 0 0) m (call_offers 0 0 0) given_ends Nothing (λ n answer k. absurd k) (λ n answer k. absurd k)
       (λ n answer k. absurd k) _
       (planned_weaker _ (λ n answer k. k) (few_of AnyAnswer m NoWord NoGrant NoPair NoEui (call_given 0 0 0))

@@ -20,11 +20,11 @@ use Rattle.node_rules.specs.MemoryDrafts.{in_memory}
 use Rattle.node_rules.specs.NodeSteps.{NodeStep, acts, stays, left_by}
 use Rattle.node_rules.specs.Laws.{IsWhole, IsCutOff}
 use Rattle.node_rules.proofs.Sizes.{pending, pending_bound}
-use Rattle.node_rules.proofs.Writing.{clean}
+use Rattle.node_rules.proofs.FailedWrites.{clean}
 use Rattle.line_laws.specs.Stores.{IsHeld, IsReadable, BookKept, IsKept, HasEui, IsPair}
 use Rattle.line_laws.specs.Owed.{AreOctets}
 use Rattle.line_laws.specs.Sizes.{IsMemorySized}
-use Rattle.line_laws.proofs.Keeping.{Leads, Left, carried}
+use Rattle.line_laws.proofs.KeptMemory.{Leads, Left, carried}
 use Rattle.line_laws.proofs.StoreRanks.{EntryFits}
 use Rattle.line_laws.proofs.StoreFold.{WordFits}
 use Rattle.line_laws.proofs.StorePlans.{plan_leads}

@@ -17,7 +17,7 @@ use Rattle.group_keys.specs.KeyRing as ring
 use Rattle.group_keys.specs.KeyBook as book
 use Rattle.routing_set.specs.RoutingSet as routing
 use Rattle.routing_set.specs.OwnNumber as own_number
-use Rattle.fragment_buffers.specs.Taking as pieces
+use Rattle.fragment_buffers.specs.PieceIntake as pieces
 use Rattle.fragment_buffers.specs.Reassembly.{Reassembly}
 use Rattle.std.proofs.lemmas.List.Filters.{length-filter_both, sum_by-filter_both}
 use Rattle.node_rules.specs.Memory.{StationMemory, Body, Memory, Role, Coordinator, Meter, CoordinatorSession, Node}
@@ -25,17 +25,17 @@ use Rattle.node_rules.specs.Plans.{Plan, resting}
 use Rattle.node_rules.specs.Calls as calls
 use Rattle.node_rules.specs.Meters as meters
 use Rattle.node_rules.specs.Coordinators as coordinator_rules
-use Rattle.node_rules.specs.StoreReading.{blank_station, blank_routing, tag_in}
+use Rattle.node_rules.specs.RestartStates.{blank_station, blank_routing, tag_in}
 use Rattle.node_rules.specs.Laws.{IsShort}
 use Rattle.line_rules.specs.Steps.{blank_node, restarts, memory_by, ticked}
 use Rattle.node_rules.specs.NodeSteps.{NodeStep, acts, answering}
 use Rattle.line_laws.specs.Stores.{IsStationKept, BookKept, IsNamed, IsKept}
 use Rattle.line_laws.specs.Sizes.{IsAnyLoad, IsStationSized, IsMemorySized}
 use Rattle.line_laws.specs.Owed.{AreOctets}
-use Rattle.line_laws.proofs.Keeping.{Left, leads_beside}
+use Rattle.line_laws.proofs.KeptMemory.{Left, leads_beside}
 use Rattle.line_laws.proofs.StoreFold.{ended_kept, beside_kept}
 use Rattle.line_laws.proofs.SizeFold.{stays_sized}
-use Rattle.line_laws.proofs.Restarting.{Again, again}
+use Rattle.line_laws.proofs.Restarts.{Again, again}
 use Rattle.line_laws.proofs.Nodes.{PlanOk, NodeOk, DidOk, acts_ok}
 use Rattle.line_laws.specs.Live.{marks_of}
 use Rattle.line_laws.proofs.MarkOrder.{Raised}

@@ -4,7 +4,7 @@ use Rattle.std.specs.Prelude.{All, AllPairs, IfSome, slice_get}
 use Rattle.std.proofs.lemmas.Bool.{cases_eq}
 use Rattle.std.proofs.lemmas.List.Elements.{All-cons, All-head, All-tail}
 use Rattle.plc_base.specs.declared.key.Key.{Key}
-use Rattle.mac_frames.specs.Reading.{head_in}
+use Rattle.mac_frames.specs.Reader.{head_in}
 use Rattle.group_keys.specs.KeyBook as books
 use Rattle.node_rules.specs.Memory.{Node, node_address}
 use Rattle.line_rules.specs.Worlds.{World, Flight, Issued, node_at}

@@ -6,9 +6,9 @@ use Rattle.std.proofs.lemmas.List.Elements.{All-nil, All-push, All-filter, All-w
 use Rattle.plc_base.specs.Fields.{AreOctets}
 use Rattle.plc_base.specs.Grant.{Granted}
 use Rattle.plc_base.specs.declared.address.Eui.{Eui}
-use Rattle.plc_base.specs.declared.key.Rand.{Rand}
+use Rattle.plc_base.specs.declared.key.RandomOctets.{RandomOctets}
 use Rattle.node_rules.specs.declared.refusal.SendRefusal.TheVariants.{NotJoined}
-use Rattle.node_rules.specs.Accepting.{Accepting, accept, marking}
+use Rattle.node_rules.specs.Acceptance.{Accepting, accept, marking}
 use Rattle.node_rules.specs.Calls as calls
 use Rattle.node_rules.specs.Coordinators as coordinators
 use Rattle.node_rules.specs.Drafts.{Ends, alone, empty_draft, with_next_tag, with_ring, refused}
@@ -19,9 +19,9 @@ use Rattle.node_rules.specs.MemoryDrafts.{with_station, with_memory_by, give_ran
 use Rattle.node_rules.specs.Meters as meters
 use Rattle.node_rules.specs.NodeSteps.{NodeStep, acts, stays, left_by, answering, of_station}
 use Rattle.node_rules.specs.Plans.{Plan, Outcome, carry_out, resting}
-use Rattle.node_rules.specs.StoreReading.{blank_station, remembering}
+use Rattle.node_rules.specs.RestartStates.{blank_station, remembering}
 use Rattle.node_rules.proofs.MemoryDraftShapes.{whole}
-use Rattle.node_rules.proofs.Writing.{clean}
+use Rattle.node_rules.proofs.FailedWrites.{clean}
 use Rattle.line_rules.specs.Steps.{ticked, restarts, memory_by}
 use Rattle.line_laws.specs.Stores.{IsReadable, IsReadableEntry, BookKept}
 use Rattle.line_laws.proofs.CallForms.{Few, Nothing, SendPasses, send_passes, near_is}
@@ -34,7 +34,7 @@ use Rattle.line_laws.proofs.OctetDrafts.{OutSpeaks, PlainSpeaks, made_speaks, se
 use Rattle.line_laws.proofs.OctetDrafts.{remembers_speaks, sets_out_speaks}
 use Rattle.line_laws.proofs.Planned.{Planned, Refuses, Keeps, Ended, checked_planned, sealed_planned, option_planned}
 use Rattle.line_laws.proofs.Quiet.{install_quiet}
-use Rattle.line_laws.proofs.Restarting.{IsBlank}
+use Rattle.line_laws.proofs.Restarts.{IsBlank}
 use Rattle.line_laws.proofs.NodesOk.{read_again}
 use Rattle.line_laws.proofs.StoreMarks.{Accepts, Turned, Plain, Marked, accept_is}
 use Rattle.fragment_buffers.specs.declared.times.TheConstants.{WAITING_TIME}
@@ -215,11 +215,12 @@ module _ (m : Memory) (h : MemorySpeaks m) where
         over p (Ended d answer done left) =
             Ended d answer (made_speaks (near_given to cost now) (λ by all u c. absurd (no_some _ c.is)) (empty_draft m.station) d done.0 begun_line) left
 
-    more_randoms : (value : Rand) → RandSpeaks value → DraftSpeaksIn (with_memory_by (λ n. record n { randoms = n.randoms ++ value ∷ [] }) (empty_draft m))
+    more_randoms : (value : RandomOctets) → RandSpeaks value
+        → DraftSpeaksIn (with_memory_by (λ n. record n { randoms = n.randoms ++ value ∷ [] }) (empty_draft m))
     unfolding empty_draft
     more_randoms value is = remembers_speaks (λ n. record n { randoms = n.randoms ++ value ∷ [] }) (empty_draft m) (begun_speaks m h reads) reads
         (record { waiting = h.waiting; randoms = All-push RandSpeaks m.randoms value h.randoms is; session = h.session; sessions = h.sessions })
 
-    pub random_speaks : (value : Rand) → RandSpeaks value → PlanSpeaks (give_random m value)
+    pub random_speaks : (value : RandomOctets) → RandSpeaks value → PlanSpeaks (give_random m value)
     random_speaks value is = choose_speaks (λ full. refuses m h _ _)
         (λ room. sealing_speaks given_ends (with_memory_by (λ n. record n { randoms = n.randoms ++ value ∷ [] }) (empty_draft m)) tt (more_randoms value is))

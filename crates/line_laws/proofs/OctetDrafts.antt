@@ -12,7 +12,7 @@ use Rattle.plc_base.proofs.OctetLists.{front, remainder}
 use Rattle.plc_base.specs.Grant.{Granted}
 use Rattle.plc_base.specs.declared.address.Eui.{Eui}
 use Rattle.plc_base.specs.declared.key.Key.{Key}
-use Rattle.plc_base.specs.declared.key.Rand.{Rand}
+use Rattle.plc_base.specs.declared.key.RandomOctets.{RandomOctets}
 use Rattle.plc_base.specs.declared.tags.PairTag.{PairTag}
 use Rattle.group_keys.specs.declared.key_book.BookEntry.{BookEntry}
 use Rattle.group_keys.specs.KeyRing as ring
@@ -29,7 +29,7 @@ use Rattle.loadng_messages.proofs.MessageOctets.{message_octets}
 use Rattle.mesh_header.specs.declared.unit.Unit.{Unit as MeshUnit}
 use Rattle.mesh_header.specs.declared.unit.Unit.TheVariants as units
 use Rattle.mesh_header.specs.Grammar.{spelling}
-use Rattle.mesh_header.specs.Reading.{unit_in}
+use Rattle.mesh_header.specs.Reader.{unit_in}
 use Rattle.mesh_header.specs.Laws.{HasOctets, SpellsOctets}
 use Rattle.mesh_header.proofs.UnitOctets.{spelling_octets, read_octets}
 use Rattle.mac_frames.specs.declared.head.MacHead.TheVariants as heads
@@ -40,7 +40,7 @@ use Rattle.fragment_buffers.proofs.LoadOctets.{load_octets_spelled}
 use Rattle.node_rules.specs.declared.heard.Heard.{Heard}
 use Rattle.node_rules.specs.Ciphers.{network}
 use Rattle.node_rules.specs.Frames.{SealedUnit, Sent, Sealed, Up, Down, head_of, joining_unit, spelled}
-use Rattle.node_rules.specs.Hearing.{Hearing, dropped, hop_less}
+use Rattle.node_rules.specs.HearingRules.{Hearing, dropped, hop_less}
 use Rattle.node_rules.specs.Memory.{StationMemory, Memory, Body, Load, Datagram, Command, MeterSession, CoordinatorSession, address_of, next_hop}
 use Rattle.node_rules.specs.Plans.{Plan, resting, within}
 use Rattle.node_rules.specs.Drafts.{Draft, Ends, UnsealedUnit, alone, empty_draft, with_rank, with_own_number, with_next_tag, with_ring, with_routing_by, goes}
@@ -48,7 +48,7 @@ use Rattle.node_rules.specs.Drafts.{body_goes, waits, leave, waits_for, all_go, 
 use Rattle.node_rules.specs.Drafts.{sealing_key, counters_left, refused, sealing, sealed, checked, choose}
 use Rattle.node_rules.specs.MemoryDrafts.{in_memory, with_station, on_station, station_part, with_memory_by, with_pair_tags, goes_up, goes_down, is_commanded}
 use Rattle.node_rules.specs.Coordinators.{with_book_entry}
-use Rattle.node_rules.specs.Joining.{command_of}
+use Rattle.node_rules.specs.JoiningPackets.{command_of}
 use Rattle.node_rules.proofs.MemoryDraftShapes.{whole, reading}
 use Rattle.line_laws.specs.Stores.{IsReadable, HasEui}
 use Rattle.line_laws.proofs.CoordinatorCalls.{ring_key_octets}
@@ -93,7 +93,7 @@ route_octets m = spelling_octets (units.Local 1 (messages.spelling m)) (omega ar
 abbrev pub BodySpeaks : Body → Type 0
 BodySpeaks b = LoadSpeaks b.load
 
-abbrev pub RandSpeaks : Rand → Type 0
+abbrev pub RandSpeaks : RandomOctets → Type 0
 RandSpeaks value = AreOctets value.0 × (length value.0 ≤ 16)
 
 -- a peer names itself, and repeats the server's random value

@@ -6,7 +6,7 @@ use Rattle.std.specs.Option.{option_map_or}
 use Rattle.std.proofs.lemmas.List.Elements.{All-nil, All-cons, All-head, All-tail, All-append, All-push}
 use Rattle.plc_base.specs.declared.address.Eui.{Eui}
 use Rattle.plc_base.specs.declared.key.Key.{Key}
-use Rattle.plc_base.specs.declared.key.Rand.{Rand}
+use Rattle.plc_base.specs.declared.key.RandomOctets.{RandomOctets}
 use Rattle.plc_base.specs.Grant.{Granted}
 use Rattle.group_keys.specs.KeyRing as ring
 use Rattle.mesh_header.specs.declared.unit.Unit.{Unit as MeshUnit}
@@ -24,8 +24,8 @@ use Rattle.node_rules.specs.Drafts.{Draft, Ends, UnsealedUnit, all_go, alone, bo
 use Rattle.node_rules.specs.Drafts.{sealing_key}
 use Rattle.node_rules.specs.Drafts.{units_of, waits, waits_for, with_next_tag, with_own_number, with_rank, with_ring, with_routing_by}
 use Rattle.node_rules.specs.Frames.{Sent, Sealed, Up, Down, arrived}
-use Rattle.node_rules.specs.Hearing.{dropped}
-use Rattle.node_rules.specs.Joining.{command_of}
+use Rattle.node_rules.specs.HearingRules.{dropped}
+use Rattle.node_rules.specs.JoiningPackets.{command_of}
 use Rattle.node_rules.specs.Memory.{StationMemory, Memory, Node, Body, Load, Datagram, Command, Role, Coordinator, Meter}
 use Rattle.node_rules.specs.MemoryDrafts.{give_random, given_ends, goes_down, goes_up, in_memory, on_station, station_part, with_memory_by, with_pair_tags}
 use Rattle.node_rules.specs.Meters as meters
@@ -33,7 +33,7 @@ use Rattle.node_rules.specs.NodeSteps.{NodeStep, acts, answering, left_by, of_st
 use Rattle.node_rules.specs.Plans.{Plan, carry_out, resting}
 use Rattle.node_rules.specs.Laws.{IsWhole, IsCutOff}
 use Rattle.node_rules.proofs.MemoryDraftShapes.{whole}
-use Rattle.node_rules.proofs.Writing.{clean}
+use Rattle.node_rules.proofs.FailedWrites.{clean}
 use Rattle.line_rules.specs.Answers.{Reception, coordinator_reception, meter_reception}
 use Rattle.line_rules.specs.Steps.{hearing_step, identity}
 use Rattle.line_rules.specs.Worlds.{World}
@@ -230,7 +230,7 @@ send_old m to datagram note now = plan_old AnyWord NoGrant NoPair NoEui (call_gi
     over p (Keeps n answer k) = absurd k
     over p (Ended d answer done left) = Ended (whole m d) answer (Station d done.0, record { few = done.1.few }) left
 
-random_old : (m : Memory) (value : Rand) → All IsOldFrame (give_random m value).frames
+random_old : (m : Memory) (value : RandomOctets) → All IsOldFrame (give_random m value).frames
 random_old m value = plan_old AnyWord NoGrant NoPair NoEui (call_given 0 0 0) m given_ends Nothing
     (MadeBy AnyWord NoGrant NoPair NoEui (call_given 0 0 0) m AnyAnswer) (λ d answer y. y.0) _
     (random_is AnyWord NoGrant NoPair NoEui (call_given 0 0 0) m value)

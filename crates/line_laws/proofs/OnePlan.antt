@@ -5,7 +5,7 @@ use Rattle.std.specs.Option.{option_map_or}
 use Rattle.plc_base.specs.declared.address.Eui.{Eui}
 use Rattle.mesh_header.specs.declared.unit.Unit.{Unit as MeshUnit}
 use Rattle.mesh_header.specs.declared.unit.Unit.TheVariants as units
-use Rattle.mesh_header.specs.Reading.{unit_in}
+use Rattle.mesh_header.specs.Reader.{unit_in}
 use Rattle.store_tables.specs.Writes.{Written, write}
 use Rattle.node_rules.specs.Accepted.{Accepted}
 use Rattle.node_rules.specs.declared.heard.Heard.TheVariants as heard_words
@@ -16,7 +16,7 @@ use Rattle.node_rules.specs.Ciphers.{Ciphers}
 use Rattle.node_rules.specs.Coordinators as coordinator_rules
 use Rattle.node_rules.specs.Meters as meters
 use Rattle.node_rules.specs.Drafts.{choose as choose_plan}
-use Rattle.node_rules.specs.Hearing.{Hearing, drop_it, hear, hear_sealed, hear_unit_in}
+use Rattle.node_rules.specs.HearingRules.{Hearing, drop_it, hear, hear_sealed, hear_unit_in}
 use Rattle.node_rules.specs.declared.refusal.LocalRefusal.TheVariants as locals
 use Rattle.node_rules.specs.Memory.{StationMemory, Memory, Node, Role, Coordinator, Meter, Stored, address_of}
 use Rattle.node_rules.specs.MemoryDrafts.{in_memory, unread, with_station}
@@ -26,7 +26,7 @@ use Rattle.reach_rules.specs.CheckedReplies.{acknowledged, acknowledges, message
 use Rattle.reach_rules.specs.ReachingNodes.{ReachHeard, command_answer, followed_by, known_answer, known_plan}
 use Rattle.reach_rules.specs.ReachingNodes.{drop_it as drop_reach}
 use Rattle.node_rules.specs.Replies.{reply_among}
-use Rattle.reach_rules.specs.Receiving.{NeighbourCommand, command_of, command_on, command_with, hear_by, hear_command, hear_reaching}
+use Rattle.reach_rules.specs.FurtherReceptions.{NeighbourCommand, command_of, command_on, command_with, hear_by, hear_command, hear_reaching}
 use Rattle.reach_rules.specs.declared.refusal.ReachDropped.{ReachDropped}
 use Rattle.reach_rules.specs.declared.refusal.ReachDropped.TheVariants as reach_drops
 use Rattle.line_rules.specs.Answers.{Reception, coordinator_reception, meter_reception}

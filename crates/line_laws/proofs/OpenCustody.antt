@@ -9,7 +9,7 @@ use Rattle.std.proofs.lemmas.List.Elements.{All-head, All-tail}
 use Rattle.std.proofs.lemmas.Option.{same_Some}
 use Rattle.std.proofs.lemmas.Slice.Eq.{bytes_eq-Decides}
 use Rattle.plc_base.specs.declared.key.Key.{Key}
-use Rattle.mac_frames.specs.Reading.{head_in}
+use Rattle.mac_frames.specs.Reader.{head_in}
 use Rattle.pan_discovery.specs.Messages.{IsDiscovery}
 use Rattle.node_rules.specs.Accepted.{Accepted}
 use Rattle.node_rules.specs.declared.heard.Path.{Path}
@@ -48,7 +48,7 @@ use Rattle.line_laws.proofs.FurtherUps.{one_list, sent_under, start_guarded}
 use Rattle.line_laws.proofs.IssueRuns.{all_of_one}
 use Rattle.line_laws.proofs.KeyedRuns.{every_fall}
 use Rattle.line_laws.proofs.LawRuns.{every_count, every_forgery, every_send, every_tag, every_trace}
-use Rattle.line_laws.proofs.Readings.{network_ranges}
+use Rattle.line_laws.proofs.StorableGrants.{network_ranges}
 use Rattle.line_laws.proofs.UpsSent.{owed_at}
 
 -- # Openings

@@ -13,7 +13,7 @@ use Rattle.node_rules.specs.declared.refusal.CoordinatorRefusal.TheVariants as r
 use Rattle.node_rules.specs.Frames.{Arrived}
 use Rattle.node_rules.specs.Memory.{StationMemory, Memory, Node}
 use Rattle.node_rules.specs.Plans.{Plan, carry_out, resting}
-use Rattle.node_rules.specs.Accepting.{Accepting, marking}
+use Rattle.node_rules.specs.Acceptance.{Accepting, marking}
 use Rattle.node_rules.specs.Drafts.{Draft, alone, StationPlace, Ends, sealed_units, sealed_by, sealing_key, empty_draft, with_rank, with_ring, sealing, refused}
 use Rattle.node_rules.specs.Drafts.{checked, choose}
 use Rattle.node_rules.specs.MemoryDrafts.{in_memory, with_memory_by}
@@ -22,7 +22,7 @@ use Rattle.node_rules.specs.Coordinators as coordinators
 use Rattle.node_rules.specs.Coordinators.{with_book_entry, changed, changes, without_session}
 use Rattle.node_rules.specs.Laws.{IsWhole, IsCutOff}
 use Rattle.node_rules.specs.NodeSteps.{acts, stays, left_by}
-use Rattle.node_rules.proofs.Writing.{clean}
+use Rattle.node_rules.proofs.FailedWrites.{clean}
 use Rattle.line_laws.proofs.StoreMarks.{Accepts, Turned, Plain, Marked}
 
 sealed_none : (r : ring.Ring) (first : ℕ) → sealed_by r first [] ≡ []

@@ -8,7 +8,7 @@ use Rattle.routing_set.specs.RoutingSet as routing
 use Rattle.node_rules.specs.Frames.{Arrived}
 use Rattle.node_rules.specs.Memory.{StationMemory, Memory, Load, Datagram, Body}
 use Rattle.node_rules.specs.Plans.{Plan, resting}
-use Rattle.node_rules.specs.Accepting.{Accepting, accept, marking}
+use Rattle.node_rules.specs.Acceptance.{Accepting, accept, marking}
 use Rattle.node_rules.specs.Calls as calls
 use Rattle.node_rules.specs.Drafts.{Ends, alone, empty_draft}
 use Rattle.node_rules.specs.MemoryDrafts.{in_memory, with_station}

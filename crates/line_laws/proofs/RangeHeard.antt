@@ -6,10 +6,10 @@ use Rattle.std.proofs.lemmas.Option.{same_Some}
 use Rattle.plc_base.specs.declared.key.Key.{Key}
 use Rattle.mesh_header.specs.declared.unit.Unit.{Unit as MeshUnit}
 use Rattle.mesh_header.specs.declared.unit.Unit.TheVariants as units
-use Rattle.mesh_header.specs.Reading.{unit_in}
+use Rattle.mesh_header.specs.Reader.{unit_in}
 use Rattle.loadng_messages.specs.declared.message.Message.{Message}
 use Rattle.loadng_messages.specs.Grammar as messages
-use Rattle.loadng_messages.specs.Reading.{message_in}
+use Rattle.loadng_messages.specs.Reader.{message_in}
 use Rattle.joining_messages.specs.declared.message.JoinMessage.{JoinMessage}
 use Rattle.node_rules.specs.declared.heard.Path.{Path}
 use Rattle.node_rules.specs.declared.heard.Path.TheVariants as paths
@@ -18,8 +18,8 @@ use Rattle.node_rules.specs.declared.heard.Heard.{Heard}
 use Rattle.node_rules.specs.declared.heard.MeterHeard.TheVariants as meter_heard
 use Rattle.node_rules.specs.Frames.{SealedUnit, to_all}
 use Rattle.node_rules.specs.Memory.{StationMemory, Memory, Load}
-use Rattle.node_rules.specs.Joining.{command_of}
-use Rattle.node_rules.specs.Hearing.{dropped}
+use Rattle.node_rules.specs.JoiningPackets.{command_of}
+use Rattle.node_rules.specs.HearingRules.{dropped}
 use Rattle.node_rules.specs.Meters as meters
 use Rattle.loadng_messages.proofs.Readings.{message_read}
 use Rattle.line_laws.specs.SealedUnits.{IsFit, IsRoute, IsSealedUnit}

@@ -5,14 +5,14 @@ use Rattle.std.proofs.lemmas.List.Elements.{All-nil}
 use Rattle.plc_base.specs.Grant.{Granted}
 use Rattle.plc_base.specs.declared.address.Eui.{Eui}
 use Rattle.plc_base.specs.declared.key.Key.{Key}
-use Rattle.plc_base.specs.declared.key.Rand.{Rand}
+use Rattle.plc_base.specs.declared.key.RandomOctets.{RandomOctets}
 use Rattle.joining_messages.specs.declared.message.JoinMessage.{JoinMessage}
 use Rattle.node_rules.specs.declared.refusal.CoordinatorRefusal.{CoordinatorRefusal}
 use Rattle.node_rules.specs.Calls as calls
 use Rattle.node_rules.specs.Ciphers.{Ciphers}
 use Rattle.node_rules.specs.Coordinators as coordinators
 use Rattle.node_rules.specs.Drafts.{choose}
-use Rattle.node_rules.specs.Joining.{command_of}
+use Rattle.node_rules.specs.JoiningPackets.{command_of}
 use Rattle.node_rules.specs.Memory.{Memory, Coordinator, Load, Datagram, Command}
 use Rattle.node_rules.specs.MemoryDrafts.{in_memory, give_random, given_ends}
 use Rattle.node_rules.specs.Meters as meters
@@ -94,7 +94,7 @@ module _ (m : Memory) (h : IsStationRanged m.station) where
   unfolding resting
   rests_ranged answer failed = record { station = h; frames = All-nil IsSent }
 
-  pub random_ranged : (value : Rand) → RangeOk (give_random m value)
+  pub random_ranged : (value : RandomOctets) → RangeOk (give_random m value)
   random_ranged value =
       plan_ranged NoWord NoGrant NoPair NoEui (call_given 0 0 0) (call NoWord (λ to n load none. absurd none) never 0) m h given_ends Nothing
       (MadeBy NoWord NoGrant NoPair NoEui (call_given 0 0 0) m AnyAnswer)

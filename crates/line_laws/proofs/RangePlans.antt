@@ -15,7 +15,7 @@ use Rattle.node_rules.specs.MemoryDrafts.{in_memory}
 use Rattle.node_rules.specs.Laws.{IsWhole, IsCutOff}
 use Rattle.node_rules.specs.NodeSteps.{NodeStep, acts, stays, left_by}
 use Rattle.line_rules.specs.Steps.{flights_of}
-use Rattle.node_rules.proofs.Writing.{clean}
+use Rattle.node_rules.proofs.FailedWrites.{clean}
 use Rattle.line_laws.specs.SealedUnits.{AreFlights}
 use Rattle.line_laws.specs.Ranges.{IsStationRanged}
 use Rattle.line_laws.proofs.Planned.{Planned, Refuses, Keeps, Ended}

@@ -26,7 +26,7 @@ use Rattle.node_rules.specs.declared.refusal.FrameRefusal.{FrameRefusal}
 use Rattle.node_rules.specs.declared.refusal.FrameRefusal.TheVariants as frames
 use Rattle.node_rules.specs.declared.refusal.SendRefusal.{SendRefusal}
 use Rattle.node_rules.specs.declared.refusal.SendRefusal.TheVariants as sends
-use Rattle.node_rules.specs.Accepting.{accept}
+use Rattle.node_rules.specs.Acceptance.{accept}
 use Rattle.node_rules.specs.Calls as calls
 use Rattle.node_rules.specs.Ciphers.{network}
 use Rattle.node_rules.specs.Coordinators as coordinator_rules
@@ -36,7 +36,7 @@ use Rattle.node_rules.specs.MemoryDrafts.{with_station}
 use Rattle.node_rules.specs.Meters as meters
 use Rattle.node_rules.specs.NodeSteps.{NodeStep, acts, stays, answering, changing, of_station}
 use Rattle.node_rules.specs.Plans.{Plan}
-use Rattle.node_rules.specs.StoreReading.{first_grant, blank_station}
+use Rattle.node_rules.specs.RestartStates.{first_grant, blank_station}
 use Rattle.line_laws.specs.SealedUnits.{IsFlight}
 use Rattle.line_laws.specs.Owed.{AreOctets}
 use Rattle.line_laws.specs.Ranges.{HasHop, IsBody, IsStationRanged}
@@ -64,7 +64,7 @@ use Rattle.line_laws.proofs.RangeHeard.{SaysShort}
 use Rattle.line_laws.proofs.RangeOrders.{random_ranged, counter_ranged, number_ranged, provision_ranged, begin_ranged, join_ranged, leave_ranged}
 use Rattle.line_laws.proofs.RangeOrders.{challenge_ranged, activate_ranged, allow_ranged, depot_ranged, rekey_ranged, turn_ranged, kick_ranged}
 use Rattle.line_laws.proofs.RangePlans.{DidRanged, acts_ranged, did_flights}
-use Rattle.line_laws.proofs.Readings.{held, none_held, network_ranges}
+use Rattle.line_laws.proofs.StorableGrants.{held, none_held, network_ranges}
 use Rattle.line_laws.proofs.NodesOk.{read_again}
 use Rattle.line_laws.proofs.StoreMarks.{accept_is}
 use Rattle.line_laws.proofs.StepKinds.{IsCall, Gives, Joins, Leaves, Sends, Breaks, Nears, Counts, Numbers, Accepts, Provisions, Depots, Allows, Rekeys, Turns}

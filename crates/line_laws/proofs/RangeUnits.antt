@@ -96,7 +96,7 @@ piece_some d tag k lt =
     let len = piece_length d tag k in
     omega arith
 
--- so many pieces, and each begins within
+-- this many pieces, and each begins within
 count_bound : (n k : ℕ) → 375 < n → n ≤ 1280 → k < div_ceil n 368 → (k ≤ 3) × (368 * k < n)
 count_bound n k above below lt = (omega arith, omega arith)
 

@@ -8,7 +8,7 @@ use Rattle.routing_set.specs.declared.entry.RoutingEntry.{RoutingEntry}
 use Rattle.routing_set.specs.Ranks.{IsAtLeast}
 use Rattle.routing_set.specs.RoutingSet.{Routing, rank_of, route_of, next_of, held, is_better, is_full, entered, offered_entry, offered, half_offered, ended}
 use Rattle.routing_set.specs.Histories.{IsRouting}
-use Rattle.routing_set.proofs.Rising.{entered_sound, half_sound, entered_rises, half_rises, ended_held, ended_ranks, ended_routes}
+use Rattle.routing_set.proofs.RisingRanks.{entered_sound, half_sound, entered_rises, half_rises, ended_held, ended_ranks, ended_routes}
 use Rattle.routing_set.proofs.Histories.{ended_sound}
 use Rattle.line_laws.proofs.RankOrder.{at_least_trans}
 use Rattle.line_laws.proofs.RankSteps.{After, Here, Same, Gone, entered_after, half_same}

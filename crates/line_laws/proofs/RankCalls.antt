@@ -9,7 +9,7 @@ use Rattle.store_tables.specs.SlotTables as slots
 use Rattle.store_tables.proofs.SlotTables.{found}
 use Rattle.plc_base.specs.declared.address.Eui.{Eui}
 use Rattle.plc_base.specs.declared.key.Key.{Key}
-use Rattle.plc_base.specs.declared.key.Rand.{Rand}
+use Rattle.plc_base.specs.declared.key.RandomOctets.{RandomOctets}
 use Rattle.plc_base.specs.Grant.{Granted}
 use Rattle.frame_counters.specs.PeerMarks as marks
 use Rattle.frame_counters.proofs.Tables.{room_new}
@@ -23,14 +23,14 @@ use Rattle.node_rules.specs.declared.heard.CoordinatorHeard.TheVariants as coord
 use Rattle.node_rules.specs.Frames.{Arrived}
 use Rattle.node_rules.specs.Memory.{StationMemory, Memory, address_of}
 use Rattle.node_rules.specs.Plans.{Plan, resting, within}
-use Rattle.node_rules.specs.Accepting.{Accepting, accept, marking}
+use Rattle.node_rules.specs.Acceptance.{Accepting, accept, marking}
 use Rattle.node_rules.specs.Drafts.{Draft, Ends, alone, empty_draft, choose}
-use Rattle.node_rules.specs.Hearing.{dropped, hear}
+use Rattle.node_rules.specs.HearingRules.{dropped, hear}
 use Rattle.node_rules.specs.MemoryDrafts.{in_memory, with_station, give_random, given_ends}
 use Rattle.node_rules.specs.Calls as calls
 use Rattle.node_rules.specs.Meters as meters
 use Rattle.node_rules.specs.Coordinators as coordinators
-use Rattle.node_rules.specs.StoreReading.{first_grant}
+use Rattle.node_rules.specs.RestartStates.{first_grant}
 use Rattle.node_rules.specs.NodeSteps.{of_station}
 use Rattle.node_rules.proofs.MemoryDraftShapes.{whole, reading}
 use Rattle.line_laws.proofs.StoreMarks.{Accepts, Turned, Plain, Marked, accept_is}
@@ -176,7 +176,7 @@ module _ (At Own : ℕ → Type 0) (C : ℕ → ℕ → Rank → Type 0) (m : Me
       by_ring true = resting_ranks At Own C m m _ _ refl refl here
       by_ring false = provision_ranks (first_grant key) at
 
-  pub random_ranks : (value : Rand) → Ranked (give_random m value)
+  pub random_ranks : (value : RandomOctets) → Ranked (give_random m value)
   random_ranks value = quiet given_ends 0 0 0 NoWord NoGrant NoPair NoEui _ (λ granted none. absurd none) (λ d a x. x.0) _
       (random_is NoWord NoGrant NoPair NoEui (call_given 0 0 0) m value)
 

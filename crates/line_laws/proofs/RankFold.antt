@@ -15,13 +15,13 @@ use Rattle.group_keys.specs.KeyBook as book
 use Rattle.routing_set.specs.declared.rank.Rank.{Rank}
 use Rattle.routing_set.specs.RoutingSet as routing
 use Rattle.routing_set.specs.declared.entry.RoutingEntry.{RoutingEntry}
-use Rattle.routing_set.proofs.Endings.{kept_ended}
+use Rattle.routing_set.proofs.RouteEnds.{kept_ended}
 use Rattle.routing_set.specs.OwnNumber as own_number
 use Rattle.node_rules.specs.Memory.{StationMemory, Memory, address_of}
 use Rattle.node_rules.specs.Drafts.{Draft, empty_draft, with_rank, with_own_number, with_next_tag, with_ring, with_routing_by, goes, body_goes, waits, leave}
 use Rattle.node_rules.specs.MemoryDrafts.{on_station, station_part, with_memory_by, with_pair_tags, goes_up, goes_down}
 use Rattle.node_rules.specs.Coordinators.{with_book_entry}
-use Rattle.line_laws.proofs.Keeping.{Leads, leads_beside, leads_append}
+use Rattle.line_laws.proofs.KeptMemory.{Leads, leads_beside, leads_append}
 use Rattle.line_laws.proofs.StoreRanks.{EntryFits, IsRanged}
 use Rattle.line_laws.proofs.Made.{RingWord, Install, RingChange, Drops, Installs, Draws, Activates, Given, Offered, Made, Starts, Ranks, Numbers, Tags, Rings}
 use Rattle.line_laws.proofs.Made.{Idles, Loses, Goes, Sends, Waits, Leaves, ByRequest, ByReply, ByItself}

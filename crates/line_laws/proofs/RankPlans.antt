@@ -13,7 +13,7 @@ use Rattle.routing_set.specs.Ranks.{IsAtLeast}
 use Rattle.routing_set.specs.RoutingSet as routing
 use Rattle.routing_set.specs.Histories.{IsRouting}
 use Rattle.routing_set.proofs.Histories.{opened_again}
-use Rattle.routing_set.proofs.Rising.{ended_held, ended_ranks}
+use Rattle.routing_set.proofs.RisingRanks.{ended_held, ended_ranks}
 use Rattle.node_rules.specs.Frames.{Sent}
 use Rattle.node_rules.specs.Memory.{Memory, Node, address_of}
 use Rattle.node_rules.specs.Plans.{Plan, Outcome, carry_out, resting}
@@ -21,9 +21,9 @@ use Rattle.node_rules.specs.Drafts.{Draft, Ends}
 use Rattle.node_rules.specs.MemoryDrafts.{in_memory}
 use Rattle.node_rules.specs.Laws.{all_put, IsWhole, IsCutOff}
 use Rattle.node_rules.specs.NodeSteps.{NodeStep, acts, stays, left_by}
-use Rattle.node_rules.proofs.Writing.{clean}
+use Rattle.node_rules.proofs.FailedWrites.{clean}
 use Rattle.line_laws.specs.Stores.{IsKept}
-use Rattle.line_laws.proofs.Keeping.{Reads, Left, Leads, leads_beside, leads_append, front_reads}
+use Rattle.line_laws.proofs.KeptMemory.{Reads, Left, Leads, leads_beside, leads_append, front_reads}
 use Rattle.line_laws.proofs.Planned.{Planned, Refuses, Keeps, Ended}
 use Rattle.line_laws.proofs.Made.{RingWord, Install, Given, Offered}
 use Rattle.line_laws.proofs.MadeIn.{MadeIn}

@@ -11,7 +11,7 @@ use Rattle.routing_set.specs.RoutingSet.{Routing, place_of, rank_of, route_of, h
 use Rattle.routing_set.specs.Histories.{IsRouting}
 use Rattle.routing_set.proofs.Offers.{one_goes, gone_among, place_there, room_old, entered_held, entered_new, entered_first, after_gone}
 use Rattle.routing_set.proofs.LookUps.{is_at, entry_of-find, Came, came_held, came_new, came_gone}
-use Rattle.routing_set.proofs.Rising.{route-by}
+use Rattle.routing_set.proofs.RisingRanks.{route-by}
 
 rank-by : (r : Routing) (dest : ℕ) → rank_of r dest ≡ option_map (λ e. e.rank) (find (is_at dest) r.entries)
 unfolding rank_of

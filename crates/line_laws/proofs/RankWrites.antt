@@ -20,7 +20,7 @@ use Rattle.routing_set.proofs.FloorRecords.{floors_in-insert}
 use Rattle.routing_set.proofs.Offers.{entered_held, writes_held, entered_new, writes_new, entered_first, writes_first, after_gone, gone_among, place_there}
 use Rattle.routing_set.proofs.Offers.{one_goes, room_old, half_first}
 use Rattle.line_laws.specs.Stores.{HasShortRank}
-use Rattle.line_laws.proofs.Keeping.{Leads, leads_beside, leads_one, leads_append, leads_when}
+use Rattle.line_laws.proofs.KeptMemory.{Leads, leads_beside, leads_one, leads_append, leads_when}
 use Rattle.line_laws.proofs.Slots.{put_outside, routing_stays}
 use Rattle.line_laws.proofs.StoreRanks.{EntryFits, IsRanged}
 use Rattle.line_laws.proofs.RankAccount.{Account, account_trans, offered_account, half_account}

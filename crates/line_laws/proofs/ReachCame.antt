@@ -9,12 +9,12 @@ use Rattle.plc_base.specs.declared.key.Key.{Key}
 use Rattle.plc_base.specs.Faults.{◌then◌, ◌when◌}
 use Rattle.mesh_header.specs.declared.unit.Unit.{Unit as MeshUnit}
 use Rattle.mesh_header.specs.declared.unit.Unit.TheVariants as units
-use Rattle.mesh_header.specs.Reading.{unit_in}
+use Rattle.mesh_header.specs.Reader.{unit_in}
 use Rattle.broadcast_log.specs.declared.broadcast.Broadcast.{Broadcast}
 use Rattle.broadcast_log.specs.declared.fault.LogFault.{LogFault}
 use Rattle.broadcast_log.specs.declared.fault.LogFault.TheVariants as log_faults
 use Rattle.broadcast_log.specs.OriginMarks.{room_for}
-use Rattle.broadcast_log.specs.Reading.{broadcast_in}
+use Rattle.broadcast_log.specs.Reader.{broadcast_in}
 use Rattle.neighbour_checks.specs.Acks.{ack_in}
 use Rattle.neighbour_checks.specs.Neighbours.{acked_after, is_awaited}
 use Rattle.path_requests.specs.declared.message.PathMessage.{PathMessage}
@@ -23,8 +23,8 @@ use Rattle.path_requests.specs.declared.step.PathStep.{PathStep}
 use Rattle.path_requests.specs.declared.step.PathStep.TheVariants.{Forward, Answer as Answers, Done}
 use Rattle.path_requests.specs.declared.step.PathRefusal.{PathRefusal}
 use Rattle.path_requests.specs.declared.step.PathRefusal.TheVariants as path_faults
-use Rattle.path_requests.specs.Reading.{path_in}
-use Rattle.path_requests.specs.Taking.{ask_led, hop, taken, tell_taken}
+use Rattle.path_requests.specs.Reader.{path_in}
+use Rattle.path_requests.specs.PathSteps.{ask_led, hop, taken, tell_taken}
 use Rattle.path_requests.specs.Walks.{ends_with, has, has_at}
 use Rattle.std.specs.Prelude.{position}
 use Rattle.node_rules.specs.Accepted.{Accepted}
@@ -38,16 +38,16 @@ use Rattle.node_rules.specs.Memory.{Memory, Node, address_of}
 use Rattle.node_rules.specs.MemoryDrafts.{in_memory}
 use Rattle.node_rules.specs.NodeSteps.{acts, left_by, stays}
 use Rattle.node_rules.specs.Plans.{Plan, carry_out, resting}
-use Rattle.node_rules.proofs.Writing.{clean}
+use Rattle.node_rules.proofs.FailedWrites.{clean}
 use Rattle.reach_rules.specs.declared.heard.CommandHeard.{CommandHeard}
 use Rattle.reach_rules.specs.declared.heard.CommandHeard.TheVariants as heard_of
 use Rattle.reach_rules.specs.declared.refusal.ReachDropped.{ReachDropped}
 use Rattle.reach_rules.specs.declared.refusal.ReachDropped.TheVariants as reach_drops
 use Rattle.reach_rules.specs.Broadcasts.{admits_broadcast, broadcast_fault, hear_broadcast, hear_broadcast_in, mark_fault}
 use Rattle.reach_rules.specs.CheckedReplies.{hear_acknowledgement, hear_acknowledgement_in}
-use Rattle.reach_rules.specs.PathAsking.{follows_path, hear_path, hear_path_in, next_toward}
+use Rattle.reach_rules.specs.PathRequests.{follows_path, hear_path, hear_path_in, next_toward}
 use Rattle.reach_rules.specs.ReachingNodes.{Beside, Reaching, drop_it, in_reach, reach_ends, remembers, with_checks}
-use Rattle.reach_rules.specs.Receiving.{NeighbourCommand, command_of, command_on, hear_command, hear_command_at}
+use Rattle.reach_rules.specs.FurtherReceptions.{NeighbourCommand, command_of, command_on, hear_command, hear_command_at}
 use Rattle.line_events.specs.declared.event.Event.{Event}
 use Rattle.line_rules.specs.Forgery.{Comes, accepting}
 use Rattle.line_rules.specs.Further.{with_beside}

@@ -2,7 +2,7 @@
 use Rattle.std.proofs.Common.{◌≡◌, ℕ, Option, Some, None, refl}
 use Rattle.std.proofs.lemmas.List.Elements.{All-weaker}
 use Rattle.broadcast_log.specs.Log.{log_at_rest}
-use Rattle.broadcast_log.proofs.Reopening.{reopens}
+use Rattle.broadcast_log.proofs.ReopenedLogs.{reopens}
 use Rattle.node_rules.specs.Memory.{Memory, Node}
 use Rattle.line_rules.specs.Further.{beside_at}
 use Rattle.line_rules.specs.FurtherRuns.{GiveLogs, GivesLog}

@@ -16,8 +16,8 @@ use Rattle.reach_rules.specs.declared.refusal.BroadcastRefusal.TheVariants as br
 use Rattle.reach_rules.specs.declared.refusal.ReachDropped.TheVariants as reach_drops
 use Rattle.reach_rules.specs.Broadcasts.{broadcast}
 use Rattle.reach_rules.specs.CheckedReplies.{acknowledges}
-use Rattle.reach_rules.specs.PathAsking.{ask_path}
-use Rattle.reach_rules.specs.Receiving.{hear_command}
+use Rattle.reach_rules.specs.PathRequests.{ask_path}
+use Rattle.reach_rules.specs.FurtherReceptions.{hear_command}
 use Rattle.line_events.specs.declared.event.Event.{Event}
 use Rattle.line_events.specs.Events.{AreEvents, IsEvent}
 use Rattle.line_rules.specs.Further.{beside_at, with_beside}
@@ -39,7 +39,7 @@ use Rattle.line_laws.proofs.FurtherStates.{Sound, sound_on, start_sound}
 use Rattle.line_laws.proofs.Homes.{at_length}
 use Rattle.line_laws.proofs.RangePlans.{DidRanged, acts_ranged}
 use Rattle.line_laws.proofs.RangeRuns.{heard_did}
-use Rattle.line_laws.proofs.Readings.{network_ranges}
+use Rattle.line_laws.proofs.StorableGrants.{network_ranges}
 use Rattle.line_laws.proofs.WalkRuns.{walked_in_range}
 use Rattle.line_laws.proofs.Worlds.{at_place, within as place_within}
 

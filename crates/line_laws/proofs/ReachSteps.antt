@@ -12,7 +12,7 @@ use Rattle.node_rules.specs.Memory.{Memory, Node, node_address}
 use Rattle.node_rules.specs.NodeSteps.{NodeStep, acts}
 use Rattle.reach_rules.specs.Beacons.{is_discovery}
 use Rattle.reach_rules.specs.ReachingNodes.{Beside, restarted, tick_beside}
-use Rattle.reach_rules.specs.Receiving.{NeighbourCommand, command_of}
+use Rattle.reach_rules.specs.FurtherReceptions.{NeighbourCommand, command_of}
 use Rattle.line_events.specs.declared.event.Answer.{Answer}
 use Rattle.line_events.specs.declared.event.Answer.TheVariants as answers
 use Rattle.line_events.specs.declared.event.Event.{Event}
@@ -302,7 +302,8 @@ module _ (ciphers : Ciphers) (w : World) (logs : LogsKept w) where
       (λ n x ys got c there is. brought c)
   reach_step_is (events.Allow node) e = Known (events.Allow node) _ (refl, λ n. refl) (step_is ciphers w (events.Allow node) e)
       (λ n x ys got c there is. brought c)
-  reach_step_is (events.Rand node value) e = Known (events.Rand node value) _ (refl, λ n. refl) (step_is ciphers w (events.Rand node value) e)
+  reach_step_is (events.RandomOctets node value) e =
+      Known (events.RandomOctets node value) _ (refl, λ n. refl) (step_is ciphers w (events.RandomOctets node value) e)
       (λ n x ys got c there is. brought c)
   reach_step_is (events.Join node agent) e = Known (events.Join node agent) _ (refl, λ n. refl) (step_is ciphers w (events.Join node agent) e)
       (λ n x ys got c there is. brought c)

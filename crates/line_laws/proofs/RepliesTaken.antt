@@ -5,9 +5,9 @@ use Rattle.std.specs.Option.{option_and_then, option_map_or}
 use Rattle.plc_base.specs.declared.key.Key.{Key}
 use Rattle.mesh_header.specs.declared.unit.Unit.{Unit as MeshUnit}
 use Rattle.mesh_header.specs.declared.unit.Unit.TheVariants as units
-use Rattle.mesh_header.specs.Reading.{unit_in}
+use Rattle.mesh_header.specs.Reader.{unit_in}
 use Rattle.loadng_messages.specs.declared.message.Message.TheVariants.{Rrep}
-use Rattle.loadng_messages.specs.Reading.{message_in}
+use Rattle.loadng_messages.specs.Reader.{message_in}
 use Rattle.routing_set.specs.declared.rank.Rank.{Rank}
 use Rattle.node_rules.specs.declared.heard.Heard.{Heard}
 use Rattle.node_rules.specs.declared.heard.Heard.TheVariants as heard_words
@@ -16,8 +16,8 @@ use Rattle.node_rules.specs.declared.refusal.Dropped.{Dropped}
 use Rattle.node_rules.specs.declared.refusal.Dropped.TheVariants as drops
 use Rattle.node_rules.specs.Coordinators as coordinator_rules
 use Rattle.node_rules.specs.Drafts.{Draft, alone, checked, choose, counters_left, refused, sealed, sealing}
-use Rattle.node_rules.specs.Hearing.{Hearing, drop_it, dropped, ends, hear, hear_command, hear_message_in, hear_reply, hear_reply_for, hear_sealed}
-use Rattle.node_rules.specs.Hearing.{hear_unit_in, learns, passes_on, rank_fault, rank_over}
+use Rattle.node_rules.specs.HearingRules.{Hearing, drop_it, dropped, ends, hear, hear_command, hear_message_in, hear_reply, hear_reply_for, hear_sealed}
+use Rattle.node_rules.specs.HearingRules.{hear_unit_in, learns, passes_on, rank_fault, rank_over}
 use Rattle.node_rules.specs.Memory.{StationMemory, address_of, next_hop}
 use Rattle.node_rules.specs.MemoryDrafts.{unread}
 use Rattle.node_rules.specs.Meters as meters

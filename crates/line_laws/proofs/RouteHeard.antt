@@ -13,11 +13,11 @@ use Rattle.std.proofs.lemmas.List.Elements.{All-head, All-tail}
 use Rattle.plc_base.specs.declared.key.Key.{Key}
 use Rattle.mesh_header.specs.declared.unit.Unit.{Unit as MeshUnit}
 use Rattle.mesh_header.specs.declared.unit.Unit.TheVariants as units
-use Rattle.mesh_header.specs.Reading.{unit_in}
+use Rattle.mesh_header.specs.Reader.{unit_in}
 use Rattle.loadng_messages.specs.declared.message.Message.{Message}
 use Rattle.loadng_messages.specs.declared.message.Message.TheVariants.{Rreq, Rrep, Rerr}
 use Rattle.loadng_messages.specs.Grammar as messages
-use Rattle.loadng_messages.specs.Reading.{message_in}
+use Rattle.loadng_messages.specs.Reader.{message_in}
 use Rattle.routing_set.specs.declared.rank.Rank.{Rank}
 use Rattle.routing_set.specs.Ranks.{IsAtLeast}
 use Rattle.routing_set.specs.RoutingSet as routing
@@ -25,11 +25,11 @@ use Rattle.node_rules.specs.declared.heard.Path.TheVariants as paths
 use Rattle.node_rules.specs.Accepted.{Accepted}
 use Rattle.node_rules.specs.Ciphers.{Ciphers}
 use Rattle.node_rules.specs.Frames.{Sealed, SealedUnit, spelled, arrived, to_all}
-use Rattle.node_rules.specs.Hearing.{rank_over}
+use Rattle.node_rules.specs.HearingRules.{rank_over}
 use Rattle.node_rules.specs.Memory.{StationMemory, Node}
 use Rattle.line_rules.specs.Worlds.{World, Flight, node_at, has_octets}
 use Rattle.line_rules.specs.Steps.{forged_by}
-use Rattle.node_rules.specs.Accepting.{Accepting, marking}
+use Rattle.node_rules.specs.Acceptance.{Accepting, marking}
 use Rattle.node_rules.specs.Plans.{resting}
 use Rattle.line_laws.proofs.StoreMarks.{IsAdmitted, IsPlain, Accepts, Turned, Plain, Marked}
 use Rattle.line_laws.proofs.Made.{Offered, ByRequest, ByReply, ByItself}

@@ -23,20 +23,20 @@ use Rattle.routing_set.specs.RoutingSet as routing
 use Rattle.routing_set.specs.OwnNumber as own_number
 use Rattle.routing_set.proofs.Histories.{opened_again}
 use Rattle.routing_set.proofs.LookUps.{is_at}
-use Rattle.routing_set.proofs.Rising.{route-by, ended_routes}
+use Rattle.routing_set.proofs.RisingRanks.{route-by, ended_routes}
 use Rattle.node_rules.specs.Frames.{Sent}
 use Rattle.node_rules.specs.Memory.{StationMemory, Memory, Node, Role, Coordinator, Meter, address_of}
 use Rattle.node_rules.specs.Plans.{Plan, carry_out}
-use Rattle.node_rules.specs.StoreReading.{memory_of, station_of, remembering, reading, tag_in, blank_routing, first_grant}
+use Rattle.node_rules.specs.RestartStates.{memory_of, station_of, remembering, reading, tag_in, blank_routing, first_grant}
 use Rattle.node_rules.specs.Drafts.{tag_slot}
 use Rattle.node_rules.specs.Laws.{IsWhole, IsCutOff}
 use Rattle.node_rules.specs.NodeSteps.{NodeStep, acts, stays, left_by}
 use Rattle.line_rules.specs.Steps.{restarts, memory_by, ticked, blank_node, coordinator_node}
 use Rattle.node_rules.specs.Coordinators as coordinator_rules
-use Rattle.node_rules.proofs.Writing.{clean}
+use Rattle.node_rules.proofs.FailedWrites.{clean}
 use Rattle.line_laws.specs.Stores.{IsKept}
 use Rattle.line_laws.specs.Sizes.{IsMemorySized}
-use Rattle.line_laws.proofs.Keeping.{Left}
+use Rattle.line_laws.proofs.KeptMemory.{Left}
 use Rattle.line_laws.proofs.Nodes.{NodeOk}
 use Rattle.line_laws.proofs.NodesOk.{blank_ok, blank_kept}
 use Rattle.line_laws.proofs.RankPlans.{rank_read, NodeCause, Stood, Came, NodeRanks, acts_ranks}

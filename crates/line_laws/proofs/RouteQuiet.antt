@@ -8,9 +8,9 @@ use Rattle.joining_messages.specs.declared.message.JoinBody.TheVariants as body
 use Rattle.node_rules.specs.Ciphers.{Ciphers}
 use Rattle.node_rules.specs.Frames.{Up}
 use Rattle.node_rules.specs.Memory.{ByAgent}
-use Rattle.node_rules.specs.Joining.{message}
+use Rattle.node_rules.specs.JoiningPackets.{message}
 use Rattle.plc_base.specs.declared.key.Key.{Key}
-use Rattle.plc_base.specs.declared.key.Rand.{Rand}
+use Rattle.plc_base.specs.declared.key.RandomOctets.{RandomOctets}
 use Rattle.plc_base.specs.Grant.{Granted}
 use Rattle.group_keys.specs.KeyRing as ring
 use Rattle.node_rules.specs.declared.refusal.CoordinatorRefusal.TheVariants as refusal
@@ -52,12 +52,13 @@ activate_self_quiet m index =
     (refused coordinators.orders m refusal.NotHeld)
     (quiet_sealing in_memory coordinators.orders d (tt {0}) none.0 none.1) (refused_none (Unit {0}) coordinators.orders m refusal.NotHeld)
 
-given_none : (m : Memory) (value : Rand) → let d : Draft Memory = with_memory_by (λ n. record n { randoms = n.randoms ++ value ∷ [] }) (empty_draft m) in
+given_none : (m : Memory) (value : RandomOctets)
+    → let d : Draft Memory = with_memory_by (λ n. record n { randoms = n.randoms ++ value ∷ [] }) (empty_draft m) in
     (d.units ≡ []) × (d.plain ≡ [])
 unfolding empty_draft with_memory_by
 given_none m value = (refl, refl)
 
-pub random_quiet : (m : Memory) (value : Rand) → (give_random m value).frames ≡ []
+pub random_quiet : (m : Memory) (value : RandomOctets) → (give_random m value).frames ≡ []
 random_quiet m value =
     let d : Draft Memory = with_memory_by (λ n. record n { randoms = n.randoms ++ value ∷ [] }) (empty_draft m) in
     let none = given_none m value in

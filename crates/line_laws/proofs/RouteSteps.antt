@@ -10,7 +10,7 @@ use Rattle.std.proofs.lemmas.Option.{same_Some, none-some}
 use Rattle.store_tables.proofs.SlotTables.{slice_get-set_other, slice_get-map}
 use Rattle.plc_base.specs.declared.address.Eui.{Eui}
 use Rattle.plc_base.specs.declared.key.Key.{Key}
-use Rattle.plc_base.specs.declared.key.Rand.{Rand}
+use Rattle.plc_base.specs.declared.key.RandomOctets.{RandomOctets}
 use Rattle.plc_base.specs.Grant.{Granted}
 use Rattle.group_keys.specs.KeyRing as ring
 use Rattle.routing_set.specs.declared.rank.Rank.{Rank}
@@ -35,7 +35,7 @@ use Rattle.node_rules.specs.Ciphers.{Ciphers}
 use Rattle.node_rules.specs.Frames.{Sent, arrived}
 use Rattle.node_rules.specs.Memory.{StationMemory, Memory, Role, Coordinator, Meter, Node, address_of, node_address}
 use Rattle.node_rules.specs.Plans.{Plan, resting}
-use Rattle.node_rules.specs.Accepting.{Accepting, accept, marking}
+use Rattle.node_rules.specs.Acceptance.{Accepting, accept, marking}
 use Rattle.node_rules.specs.Calls as calls
 use Rattle.node_rules.specs.Meters as meters
 use Rattle.node_rules.specs.Coordinators as coordinator_rules
@@ -56,7 +56,7 @@ use Rattle.node_rules.specs.NodeSteps.{NodeStep, acts, answering, of_station, ch
 use Rattle.line_laws.specs.Stores.{IsReadable, IsKept}
 use Rattle.line_laws.specs.Sizes.{IsMemorySized}
 use Rattle.line_laws.specs.Owed.{AreOctets, KeepsRanges}
-use Rattle.line_laws.proofs.Keeping.{Left}
+use Rattle.line_laws.proofs.KeptMemory.{Left}
 use Rattle.line_laws.proofs.Nodes.{NodeOk, DidOk, acts_ok, ring_readable}
 use Rattle.line_laws.proofs.StoreMarks.{accept_is, Accepts, Turned, Plain, Marked}
 use Rattle.line_laws.proofs.NodeCalls.{RoutesFit}
@@ -66,7 +66,7 @@ use Rattle.eap_psk.specs.declared.server.Agreed.{Agreed}
 use Rattle.node_rules.specs.declared.heard.MeterHeard.TheVariants as meter_heard
 use Rattle.line_laws.proofs.Quiet.{near_quiet, install_quiet, allow_quiet, depot_quiet}
 use Rattle.line_laws.proofs.RouteQuiet.{join_read, rekey_quiet, activate_self_quiet, random_quiet, leave_quiet}
-use Rattle.line_laws.proofs.RankTaking.{taking_ranks}
+use Rattle.line_laws.proofs.RankGrants.{taking_ranks}
 use Rattle.line_laws.proofs.Worlds.{WorldOk, FlightFits, at_place}
 use Rattle.line_laws.proofs.RankFold.{IsAt}
 use Rattle.line_laws.proofs.RankPlans.{PlanRanks, NodeRanks, acts_ranks, ranks_trans}
@@ -252,7 +252,7 @@ module _ (ciphers : Ciphers) (fits : KeepsRanges ciphers) (h : Homes) (w : World
 
   -- # The calls of one node
 
-  rand_holds : (number : ℕ) (value : Rand) → Holds (rand ciphers w number value)
+  rand_holds : (number : ℕ) (value : RandomOctets) → Holds (rand ciphers w number value)
   unfolding rand
   rand_holds number value =
       once _ (at_node number _ (λ x there. acted_holds number x _ there (answering_holds ciphers h (running_world w) number x random_word _
@@ -692,7 +692,7 @@ module _ (ciphers : Ciphers) (fits : KeepsRanges ciphers) (h : Homes) (w : World
   event_holds (events.Counter node value) e fit = counter_holds node value
   event_holds (events.Number node value) e fit = number_holds node value
   event_holds (events.Allow node) e fit = allow_holds node
-  event_holds (events.Rand node value) e fit = rand_holds node value
+  event_holds (events.RandomOctets node value) e fit = rand_holds node value
   event_holds (events.Join node agent) e fit = join_holds node agent
   event_holds (events.Leave node) e fit = leave_holds node
   event_holds (events.Send from to datagram) e fit = send_holds from to datagram e.2

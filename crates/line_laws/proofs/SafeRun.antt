@@ -12,7 +12,7 @@ use Rattle.line_laws.specs.Ups.{UpsAreSentAfter}
 use Rattle.line_laws.proofs.KeyedRuns.{only_issued}
 use Rattle.line_laws.proofs.FurtherLoops.{every_run as loop_free}
 use Rattle.line_laws.proofs.FurtherOctets.{every_flight}
-use Rattle.line_laws.proofs.Readings.{network_ranges}
+use Rattle.line_laws.proofs.StorableGrants.{network_ranges}
 use Rattle.line_laws.proofs.FurtherRestarts.{every_size}
 use Rattle.line_laws.proofs.FurtherUps.{every_up}
 

@@ -14,7 +14,7 @@ use Rattle.node_rules.specs.MemoryDrafts.{in_memory}
 use Rattle.node_rules.specs.NodeSteps.{acts, left_by, stays}
 use Rattle.node_rules.specs.Plans.{Plan, carry_out, resting}
 use Rattle.node_rules.specs.Laws.{IsWhole, IsCutOff}
-use Rattle.node_rules.proofs.Writing.{clean}
+use Rattle.node_rules.proofs.FailedWrites.{clean}
 use Rattle.reach_rules.specs.ReachingNodes.{Reaching, in_reach}
 use Rattle.line_laws.proofs.FlightsSay.{FrameSays}
 

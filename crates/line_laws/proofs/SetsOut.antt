@@ -11,7 +11,7 @@ use Rattle.node_rules.specs.Memory.{StationMemory, Load, Command, Memory, load_o
 use Rattle.node_rules.specs.Drafts.{Draft, UnsealedUnit, OfRoom, OfNumbers, with_own_number, goes, no_room, numbers_spent, is_awaited, lack, seeks, seeks_once}
 use Rattle.node_rules.specs.Drafts.{sets_out}
 use Rattle.node_rules.specs.MemoryDrafts.{on_station, station_part, is_commanded}
-use Rattle.node_rules.specs.Joining.{command_of}
+use Rattle.node_rules.specs.JoiningPackets.{command_of}
 use Rattle.node_rules.specs.Laws.{IsShort}
 use Rattle.line_laws.proofs.Made.{RingWord, Carry, Given, AreUnnoted, IsAlone, Unnoted, Alone, Made, Starts, Numbers, Goes, Sends, Waits, Seeks}
 use Rattle.line_laws.proofs.MadeIn.{unheard, MadeIn, OnStation}

@@ -19,8 +19,8 @@ use Rattle.node_rules.specs.declared.refusal.CoordinatorRefusal.TheVariants as r
 use Rattle.node_rules.specs.Coordinators as coordinators
 use Rattle.node_rules.specs.Coordinators.{with_book_entry, without_session, kick_goes, kick_by, kick, orders, allowed_entry}
 use Rattle.node_rules.specs.Drafts.{Draft, Ends, empty_draft, counters_left, refused}
-use Rattle.node_rules.specs.Hearing.{dropped}
-use Rattle.node_rules.specs.Joining.{message}
+use Rattle.node_rules.specs.HearingRules.{dropped}
+use Rattle.node_rules.specs.JoiningPackets.{message}
 use Rattle.node_rules.specs.Memory.{Memory, Coordinator, Node, next_hop}
 use Rattle.node_rules.specs.MemoryDrafts.{in_memory, with_memory_by, is_commanded}
 use Rattle.node_rules.specs.NodeSteps.{acts, stays, left_by}
@@ -34,7 +34,7 @@ use Rattle.line_laws.proofs.CoordinatorForms.{HandsNothingUp, IsGranted, coordin
 use Rattle.line_laws.proofs.CoordinatorForms.{kick_is}
 use Rattle.line_laws.proofs.IssueCalls.{CoordinatorWord, coordinator_words, handed_grown}
 use Rattle.line_laws.proofs.IssueWords.{commanded_leaves}
-use Rattle.line_laws.proofs.Keeping.{Leads, Left, carried}
+use Rattle.line_laws.proofs.KeptMemory.{Leads, Left, carried}
 use Rattle.line_laws.proofs.Made.{Given, Offered}
 use Rattle.line_laws.proofs.MemoryDraftForms.{AnyAnswer, HandedIn, MadeBy}
 use Rattle.line_laws.proofs.NodeCalls.{RoutesFit, heard_given, call_given, heard_offers, call_offers, granted_keys, few_of}

@@ -23,7 +23,7 @@ use Rattle.line_events.specs.declared.event.Event.{Event}
 use Rattle.line_events.specs.declared.event.Event.TheVariants as events
 use Rattle.line_events.specs.declared.event.StepFault.{StepFault}
 use Rattle.line_events.specs.declared.event.StepFault.TheVariants as faults
-use Rattle.node_rules.specs.Accepting.{accept}
+use Rattle.node_rules.specs.Acceptance.{accept}
 use Rattle.node_rules.specs.Calls as calls
 use Rattle.node_rules.specs.Ciphers.{Ciphers}
 use Rattle.node_rules.specs.Coordinators as coordinator_rules
@@ -55,7 +55,7 @@ use Rattle.line_laws.proofs.IssueNodes.{acts_whole}
 use Rattle.line_laws.proofs.IssueWorlds.{after_here}
 use Rattle.line_laws.proofs.Nodes.{NodeOk, acts_ok, node_kept, ring_readable}
 use Rattle.line_laws.proofs.NodeCalls.{RoutesFit}
-use Rattle.line_laws.proofs.Readings.{held}
+use Rattle.line_laws.proofs.StorableGrants.{held}
 use Rattle.line_laws.proofs.ShutBook.{Shut}
 use Rattle.line_laws.proofs.ShutCalls.{BookShut, acts_shut, hears_shut, allow_shut, rekey_shut, activate_self_shut, challenge_shut, activate_shut, kick_shut}
 use Rattle.line_laws.proofs.ShutCalls.{kick_leaves_shut, kick_failed}

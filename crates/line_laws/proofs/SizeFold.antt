@@ -15,7 +15,7 @@ use Rattle.plc_base.specs.Grant.{Granted}
 use Rattle.std.proofs.lemmas.List.Quantifiers.{position-Some}
 use Rattle.std.proofs.lemmas.Option.{slice_get-get_or, same_Some}
 use Rattle.group_keys.specs.KeyBook as book
-use Rattle.fragment_buffers.specs.Taking as pieces
+use Rattle.fragment_buffers.specs.PieceIntake as pieces
 use Rattle.fragment_buffers.specs.Reassembly.{PlacedPiece, Reassembly, placed, begun as piece_begun, datagram_of, repeats, overlaps}
 use Rattle.mesh_header.specs.Pieces.{Placed}
 use Rattle.node_rules.specs.declared.heard.Heard.{Heard}

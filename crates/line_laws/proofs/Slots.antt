@@ -15,7 +15,7 @@ use Rattle.routing_set.specs.RoutingSet as routing
 use Rattle.routing_set.specs.OwnNumber as own_number
 use Rattle.routing_set.proofs.Limits as number_limits
 use Rattle.node_rules.specs.Drafts.{tag_slot}
-use Rattle.node_rules.specs.StoreReading.{tag_in}
+use Rattle.node_rules.specs.RestartStates.{tag_in}
 
 -- a write changes one slot alone
 pub put_outside : (r : Records) (slot : ℕ) (octets : List ℕ) → SameOutside slot slot r (insert r slot octets)

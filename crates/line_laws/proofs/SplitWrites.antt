@@ -6,7 +6,7 @@ use Rattle.plc_base.specs.declared.keeper.Cut.{Cut}
 use Rattle.plc_base.specs.Keeper.{Records, Write, succeeds, cut_after, records_after}
 use Rattle.store_tables.specs.Writes.{Written, write}
 use Rattle.node_rules.specs.Memory.{Memory, Node, Role, Stored}
-use Rattle.node_rules.specs.Composing.{behind}
+use Rattle.node_rules.specs.ComposedPlans.{behind}
 use Rattle.node_rules.specs.NodeSteps.{acts, left_by}
 use Rattle.node_rules.specs.Plans.{Plan, carry_out, outcome_of}
 use Rattle.line_laws.specs.Later.{IsSplit, PlansSplit}

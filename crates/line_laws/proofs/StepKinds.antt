@@ -6,7 +6,7 @@ use Rattle.std.specs.Option.{option_map_or}
 use Rattle.std.proofs.lemmas.Bool.{eqb-false, ltb-true, ltb-false, or_parts}
 use Rattle.plc_base.specs.declared.address.Eui.{Eui}
 use Rattle.plc_base.specs.declared.key.Key.{Key}
-use Rattle.plc_base.specs.declared.key.Rand.{Rand}
+use Rattle.plc_base.specs.declared.key.RandomOctets.{RandomOctets}
 use Rattle.plc_base.specs.Grant.{Granted}
 use Rattle.line_events.specs.declared.event.Answer.{Answer}
 use Rattle.line_events.specs.declared.event.Answer.TheVariants as answers
@@ -27,13 +27,13 @@ use Rattle.node_rules.specs.Ciphers.{Ciphers}
 use Rattle.node_rules.specs.Frames.{arrived}
 use Rattle.node_rules.specs.Memory.{StationMemory, Memory, Meter, Node, node_address}
 use Rattle.node_rules.specs.Plans.{Plan}
-use Rattle.node_rules.specs.Accepting.{accept}
+use Rattle.node_rules.specs.Acceptance.{accept}
 use Rattle.node_rules.specs.Calls as calls
 use Rattle.node_rules.specs.Meters as meters
 use Rattle.node_rules.specs.Coordinators as coordinator_rules
 use Rattle.node_rules.specs.MemoryDrafts.{with_station, give_random}
 use Rattle.node_rules.specs.NodeSteps.{NodeStep, acts, stays, answering, changing, of_station}
-use Rattle.node_rules.specs.Showing.{shown_of}
+use Rattle.node_rules.specs.ShownNodes.{shown_of}
 use Rattle.line_rules.specs.Answers.{random_word, join_word, leave_word, sent_word, ordered_word, frame_word}
 use Rattle.line_events.specs.Events.{AreOctets, IsEui, IsKey, IsLineOctets, IsEvent}
 use Rattle.line_rules.specs.Forgery.{Comes, OfFlight, OfScript, accepting}
@@ -66,7 +66,7 @@ workshop c eui psk = acts c (Err orders.Halted) (λ m. coordinator_rules.depot m
 
 -- A call of the node of a number: its answer where the node is halted, and its plan.
 pub data IsCall (ciphers : Ciphers) (w : World) (number : ℕ) (x : Node) : (A : Type 0) → A → (Memory → Plan Memory A) → Type 1 where
-  Gives : (value : Rand) → AreOctets 16 value.0 → IsCall ciphers w number x _ (Err randoms.Halted) (λ m. give_random m value)
+  Gives : (value : RandomOctets) → AreOctets 16 value.0 → IsCall ciphers w number x _ (Err randoms.Halted) (λ m. give_random m value)
   Joins : (psk : Key) (a : ℕ) → number ≢ 0 → psk_of x ≡ Some psk → IsAddressed w a
       → IsCall ciphers w number x _ (Err joins.Halted) (λ m. meters.join (identity ciphers x psk) m a w.clock)
   Leaves : number ≢ 0 → IsCall ciphers w number x _ (Err leaves.Halted) meters.leave
@@ -99,7 +99,7 @@ pub data IsCall (ciphers : Ciphers) (w : World) (number : ℕ) (x : Node) : (A :
 
 -- the calls that are events by themselves
 pub data IsAsked (ciphers : Ciphers) (w : World) (number : ℕ) (x : Node) : (A : Type 0) → A → (Memory → Plan Memory A) → Type 1 where
-  AskRandom : (value : Rand) → AreOctets 16 value.0 → IsAsked ciphers w number x _ (Err randoms.Halted) (λ m. give_random m value)
+  AskRandom : (value : RandomOctets) → AreOctets 16 value.0 → IsAsked ciphers w number x _ (Err randoms.Halted) (λ m. give_random m value)
   AskJoin : (psk : Key) (a : ℕ) → number ≢ 0 → psk_of x ≡ Some psk → IsAddressed w a
       → IsAsked ciphers w number x _ (Err joins.Halted) (λ m. meters.join (identity ciphers x psk) m a w.clock)
   AskLeave : number ≢ 0 → IsAsked ciphers w number x _ (Err leaves.Halted) meters.leave
@@ -151,7 +151,7 @@ IsBrought _ = ⊥
 
 -- how the answers of an event's one call are read as words of the report
 pub data IsWord : (A : Type 0) → (A → Answer) → Event → Type 1 where
-  OfRandom : (number : ℕ) (value : Rand) → IsWord _ random_word (events.Rand number value)
+  OfRandom : (number : ℕ) (value : RandomOctets) → IsWord _ random_word (events.RandomOctets number value)
   OfJoin : (number agent : ℕ) → IsWord _ join_word (events.Join number agent)
   OfLeave : (number : ℕ) → IsWord _ leave_word (events.Leave number)
   OfDraw : (A : Type 0) (index : ℕ) (key : Key) → IsWord (Result A CoordinatorRefusal) (ordered_word answers.Drawn) (events.Rekey index key)
@@ -334,7 +334,7 @@ module _ (ciphers : Ciphers) (w : World) where
       by_option _ (λ psk. Ok (allowed ciphers w number (acts c (Err orders.Halted) (λ m. coordinator_rules.allow m y.eui psk)))) (psk_of y) (Err faults.Node)
       (λ psk pair. AllowsMeter number y c psk hc (Allows number y psk refl (record { other = ne; there = hy }) pair) hy) (Fails _ faults.Node))))
 
-  rand_step : (number : ℕ) (value : Rand) → AreOctets 16 value.0 → Is (events.Rand number value) (rand ciphers w number value)
+  rand_step : (number : ℕ) (value : RandomOctets) → AreOctets 16 value.0 → Is (events.RandomOctets number value) (rand ciphers w number value)
   unfolding rand
   rand_step number value are =
       once _ _ (at_node _ number _ (λ x hx. Acts _ number x _ _ _ _ hx (Gives value are) (OfRandom number value) (AskRandom value are)))
@@ -457,7 +457,7 @@ module _ (ciphers : Ciphers) (w : World) where
   step_is (events.Counter node value) e = preset_step _ (λ b. b) node _ (OfCounter value e.1)
   step_is (events.Number node value) e = preset_step _ (λ b. b) node _ (OfNumber value e.1 e.2)
   step_is (events.Allow node) e = allow_step node
-  step_is (events.Rand node value) e = rand_step node value e.1
+  step_is (events.RandomOctets node value) e = rand_step node value e.1
   step_is (events.Join node agent) e = join_step node agent
   step_is (events.Leave node) e = leave_step node
   step_is (events.Send from to datagram) e = send_step from to datagram e.2

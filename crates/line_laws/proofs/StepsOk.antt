@@ -12,7 +12,7 @@ use Rattle.store_tables.proofs.SlotTables.{slice_get-set_other, slice_get-map, s
 use Rattle.plc_base.specs.Keeper.{Records}
 use Rattle.plc_base.specs.declared.address.Eui.{Eui}
 use Rattle.plc_base.specs.declared.key.Key.{Key}
-use Rattle.plc_base.specs.declared.key.Rand.{Rand}
+use Rattle.plc_base.specs.declared.key.RandomOctets.{RandomOctets}
 use Rattle.plc_base.specs.Grant.{Granted}
 use Rattle.group_keys.specs.KeyRing as ring
 use Rattle.line_events.specs.declared.event.Event.{Event}
@@ -35,11 +35,11 @@ use Rattle.node_rules.specs.Ciphers.{Ciphers}
 use Rattle.node_rules.specs.Frames.{arrived}
 use Rattle.node_rules.specs.Memory.{StationMemory, Memory, Role, Coordinator, Meter, Node, address_of, node_address}
 use Rattle.node_rules.specs.Plans.{Plan, resting, within}
-use Rattle.node_rules.specs.Accepting.{accept}
+use Rattle.node_rules.specs.Acceptance.{accept}
 use Rattle.node_rules.specs.Calls as calls
 use Rattle.node_rules.specs.Meters as meters
 use Rattle.node_rules.specs.Coordinators as coordinator_rules
-use Rattle.node_rules.specs.StoreReading.{first_grant}
+use Rattle.node_rules.specs.RestartStates.{first_grant}
 use Rattle.line_rules.specs.Answers.{Reception, meter_reception, coordinator_reception, random_word, join_word, leave_word, sent_word, ordered_word, frame_word}
 use Rattle.node_rules.specs.declared.refusal.RingRefusal.TheVariants.{Store as RingStore}
 use Rattle.node_rules.specs.Drafts.{choose}
@@ -58,9 +58,9 @@ use Rattle.node_rules.specs.NodeSteps.{NodeStep, acts, answering, of_station}
 use Rattle.line_laws.specs.Stores.{IsReadable, IsKept, HasEui, IsPair}
 use Rattle.line_laws.specs.Sizes.{IsMemorySized}
 use Rattle.line_laws.specs.Owed.{AreOctets, KeepsRanges}
-use Rattle.line_laws.proofs.Keeping.{Left}
-use Rattle.line_laws.proofs.Readings.{held, none_held}
-use Rattle.line_laws.proofs.Rising.{IsBelow, lost_pairs}
+use Rattle.line_laws.proofs.KeptMemory.{Left}
+use Rattle.line_laws.proofs.StorableGrants.{held, none_held}
+use Rattle.line_laws.proofs.CounterOrder.{IsBelow, lost_pairs}
 use Rattle.line_laws.proofs.Nodes.{PlanFits, PlanOk, NodeOk, DidOk, acts_fits, acts_ok, ring_readable, pair_octets}
 use Rattle.line_laws.specs.Live.{marks_of}
 use Rattle.line_laws.proofs.MarkOrder.{raised_same, raised_trans}
@@ -185,7 +185,7 @@ module _ (ciphers : Ciphers) (fits : KeepsRanges ciphers) (w : World) (ok : Worl
 
   -- # allow, rand, join, leave and the other calls of one node
 
-  rand_good : (number : ℕ) (value : Rand) → StepGood w (rand ciphers w number value)
+  rand_good : (number : ℕ) (value : RandomOctets) → StepGood w (rand ciphers w number value)
   unfolding rand
   rand_good number value = once _ (at_node number _ (λ x there.
       acted_good number x _ there (answering_ok x random_word _
@@ -651,7 +651,7 @@ module _ (ciphers : Ciphers) (fits : KeepsRanges ciphers) (w : World) (ok : Worl
   step_good (events.Counter node value) e = preset_good node _ (λ role m sized. counter_ok role m sized value e.1) (λ l. counter_quiet l value)
   step_good (events.Number node value) e = preset_good node _ (λ role m sized. number_ok role m sized value e.1 e.2) (λ l. number_quiet l value)
   step_good (events.Allow node) e = allow_good node
-  step_good (events.Rand node value) e = rand_good node value
+  step_good (events.RandomOctets node value) e = rand_good node value
   step_good (events.Join node agent) e = join_good node agent
   step_good (events.Leave node) e = leave_good node
   step_good (events.Send from to datagram) e = send_good from to datagram

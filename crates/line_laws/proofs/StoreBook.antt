@@ -25,8 +25,8 @@ use Rattle.node_rules.specs.Drafts.{Draft, empty_draft}
 use Rattle.node_rules.specs.MemoryDrafts.{with_station, on_station, station_part, with_memory_by, with_pair_tags, goes_up, goes_down}
 use Rattle.node_rules.specs.Coordinators as coordinators
 use Rattle.node_rules.specs.Coordinators.{with_book_entry}
-use Rattle.line_laws.proofs.Readings.{none_held}
-use Rattle.line_laws.proofs.Keeping.{Leads, leads_beside, leads_one, leads_map}
+use Rattle.line_laws.proofs.StorableGrants.{none_held}
+use Rattle.line_laws.proofs.KeptMemory.{Leads, leads_beside, leads_one, leads_map}
 use Rattle.line_laws.proofs.Beside.{Lasts, With}
 use Rattle.line_laws.proofs.StoreRanks.{EntryFits}
 use Rattle.line_laws.proofs.StoreFold.{WordFits, Adds, adds_none, adds_then, adds_beside, made_adds}

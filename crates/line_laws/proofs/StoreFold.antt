@@ -9,13 +9,13 @@ use Rattle.routing_set.specs.declared.rank.Rank.{Rank}
 use Rattle.routing_set.specs.RoutingSet as routing
 use Rattle.node_rules.specs.Memory.{StationMemory}
 use Rattle.node_rules.specs.Drafts.{Draft, with_rank, with_own_number, with_next_tag, with_ring, with_routing_by, goes, body_goes, waits, leave}
-use Rattle.routing_set.proofs.Endings.{kept_ended}
+use Rattle.routing_set.proofs.RouteEnds.{kept_ended}
 use Rattle.routing_set.proofs.Histories.{ended_sound}
 use Rattle.routing_set.specs.declared.entry.RoutingEntry.{RoutingEntry}
 use Rattle.std.proofs.lemmas.List.Elements.{All-map, All-weaker}
 use Rattle.line_laws.specs.Sizes.{IsAnyLoad}
 use Rattle.line_laws.specs.Stores.{HasShortRank, IsHeld, IsReadable, IsStationKept}
-use Rattle.line_laws.proofs.Keeping.{Leads, leads_beside, leads_append}
+use Rattle.line_laws.proofs.KeptMemory.{Leads, leads_beside, leads_append}
 use Rattle.line_laws.proofs.Beside.{Lasts, With, low_one}
 use Rattle.line_laws.proofs.StoreWords.{ring_kept, number_leads, tag_leads}
 use Rattle.line_laws.proofs.StoreRanks.{EntryFits, ranks_lead}

@@ -14,7 +14,7 @@ use Rattle.plc_base.specs.declared.key.Key.{Key}
 use Rattle.mac_frames.specs.declared.head.MacHead.{MacHead}
 use Rattle.mac_frames.specs.declared.head.MacHead.TheVariants as heads
 use Rattle.frame_counters.specs.declared.fault.PeerFault.{PeerFault}
-use Rattle.frame_counters.specs.PeerMarks.{Peer}
+use Rattle.frame_counters.specs.PeerMarks.{PeerMark}
 use Rattle.frame_counters.specs.PeerMarks as marks
 use Rattle.frame_counters.proofs.Tables.{peer_in-octets_of, room_new}
 use Rattle.group_keys.specs.KeyRing as ring
@@ -26,9 +26,9 @@ use Rattle.node_rules.specs.declared.refusal.FrameRefusal.TheVariants.{NotForMe,
 use Rattle.node_rules.specs.Frames.{Arrived, to_all}
 use Rattle.node_rules.specs.Memory.{StationMemory}
 use Rattle.node_rules.specs.Plans.{resting}
-use Rattle.node_rules.specs.Accepting.{Accepting, is_for_me, refuse, marking, admitted, open_sealed, with_key, accept_head, accept}
+use Rattle.node_rules.specs.Acceptance.{Accepting, is_for_me, refuse, marking, admitted, open_sealed, with_key, accept_head, accept}
 use Rattle.line_laws.specs.Stores.{IsStationKept}
-use Rattle.line_laws.proofs.Keeping.{Leads}
+use Rattle.line_laws.proofs.KeptMemory.{Leads}
 use Rattle.line_laws.proofs.Beside.{Lasts, With, low_one, low_beside, low_when}
 use Rattle.line_laws.proofs.Slots.{ring_stays, counter_stays, number_stays, tag_stays, routing_stays}
 
@@ -157,7 +157,7 @@ same_marks l r t k table kept = record {
 }
 
 module _ (B : Records → Type 0) (lasts : Lasts B) (l : StationMemory) (from counter : ℕ) (address : from < 0xFFFE) (fits : counter < 2 ^ 32) where
-  ahead : Peer
+  ahead : PeerMark
   ahead = marks.peer_ahead from counter
 
   reads : (place : ℕ) → marks.peers.read place (marks.peers.octets place ahead) ≡ Some (marks.peers.rest ahead)
@@ -186,7 +186,7 @@ module _ (B : Records → Type 0) (lasts : Lasts B) (l : StationMemory) (from co
   low_leads place at =
       let there = found marks.peers l.marks from place (record { address = 0; mark = 0; stored = 0 }) at in
       let peer = marks.peer_at l.marks place in
-      let e : Peer = record (marks.peer_at l.marks place) { mark = counter } in
+      let e : PeerMark = record (marks.peer_at l.marks place) { mark = counter } in
       let got : slice_get l.marks place
       ≡ Some (marks.peer_at l.marks place) = slice_get-get_or l.marks place (record { address = 0; mark = 0; stored = 0 }) there.0 in
       low_beside B lasts l _ (λ r k. same_marks l r (set l.marks place e) k

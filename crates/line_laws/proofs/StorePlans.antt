@@ -18,7 +18,7 @@ use Rattle.node_rules.specs.MemoryDrafts.{in_memory, on_station, station_part, w
 use Rattle.node_rules.specs.Coordinators.{with_book_entry}
 use Rattle.node_rules.proofs.Sizes.{pending}
 use Rattle.line_laws.specs.Stores.{IsHeld, IsKept, HasEui, IsPair}
-use Rattle.line_laws.proofs.Keeping.{Leads, leads_beside, leads_append, leads_when}
+use Rattle.line_laws.proofs.KeptMemory.{Leads, leads_beside, leads_append, leads_when}
 use Rattle.line_laws.proofs.Beside.{low_when}
 use Rattle.line_laws.proofs.StoreWords.{counter_leads}
 use Rattle.line_laws.proofs.StoreRanks.{EntryFits}

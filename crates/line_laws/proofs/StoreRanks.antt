@@ -20,10 +20,10 @@ use Rattle.routing_set.proofs.Entries.{entry_in-octets_of}
 use Rattle.routing_set.proofs.FloorRecords.{floors_in-insert}
 use Rattle.routing_set.proofs.Offers.{entered_held, writes_held, entered_new, writes_new, entered_first, writes_first, after_gone, gone_among, place_there}
 use Rattle.routing_set.proofs.Offers.{one_goes, room_old}
-use Rattle.routing_set.proofs.Rising.{entered_sound}
+use Rattle.routing_set.proofs.RisingRanks.{entered_sound}
 use Rattle.node_rules.specs.Memory.{StationMemory}
 use Rattle.line_laws.specs.Stores.{HasShortRank, IsStationKept}
-use Rattle.line_laws.proofs.Keeping.{Leads, leads_append}
+use Rattle.line_laws.proofs.KeptMemory.{Leads, leads_append}
 use Rattle.line_laws.proofs.Beside.{Lasts, With, low_one, low_beside, low_when}
 use Rattle.line_laws.proofs.Slots.{put_outside, ring_stays, counter_stays, number_stays, tag_stays, marks_stay}
 

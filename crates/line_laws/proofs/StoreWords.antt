@@ -15,12 +15,12 @@ use Rattle.routing_set.specs.OwnNumber as own_number
 use Rattle.routing_set.proofs.Limits as number_limits
 use Rattle.node_rules.specs.Memory.{StationMemory}
 use Rattle.node_rules.specs.Drafts.{tag_slot, tag_after, numbers_spent}
-use Rattle.node_rules.specs.StoreReading.{tag_in}
+use Rattle.node_rules.specs.RestartStates.{tag_in}
 use Rattle.store_tables.specs.NumberSlots.{read_result}
 use Rattle.store_tables.proofs.NumberSlots.{stored-insert}
 use Rattle.fragment_buffers.specs.NextTag.{tag_at}
 use Rattle.line_laws.specs.Stores.{IsReadable, IsStationKept}
-use Rattle.line_laws.proofs.Keeping.{Leads}
+use Rattle.line_laws.proofs.KeptMemory.{Leads}
 use Rattle.line_laws.proofs.Beside.{Lasts, With, low_one, low_beside}
 use Rattle.line_laws.proofs.Slots.{ring_stays, counter_stays, number_stays, tag_stays, routing_stays, marks_stay}
 use Rattle.frame_counters.specs.declared.send_counter.TheConstants.{COUNTERS_AHEAD}

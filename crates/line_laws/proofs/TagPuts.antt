@@ -6,7 +6,7 @@ use Rattle.std.specs.FinMap.{insert}
 use Rattle.plc_base.specs.declared.address.Eui.{Eui}
 use Rattle.plc_base.specs.declared.keeper.Cut.{Cut}
 use Rattle.plc_base.specs.declared.key.Key.{Key}
-use Rattle.plc_base.specs.declared.key.Rand.{Rand}
+use Rattle.plc_base.specs.declared.key.RandomOctets.{RandomOctets}
 use Rattle.plc_base.specs.Grant.{Granted}
 use Rattle.plc_base.specs.Keeper.{Records, Write}
 use Rattle.store_tables.specs.SlotTables as slots
@@ -25,19 +25,19 @@ use Rattle.node_rules.specs.declared.heard.MeterHeard.TheVariants as meter_heard
 use Rattle.node_rules.specs.Frames.{Arrived}
 use Rattle.node_rules.specs.Memory.{StationMemory, Memory, Load, Datagram, Command}
 use Rattle.node_rules.specs.Plans.{Plan, carry_out, resting}
-use Rattle.node_rules.specs.Accepting.{Accepting, accept, marking}
+use Rattle.node_rules.specs.Acceptance.{Accepting, accept, marking}
 use Rattle.node_rules.specs.Calls as calls
 use Rattle.node_rules.specs.Coordinators as coordinators
 use Rattle.node_rules.specs.Coordinators.{with_book_entry}
 use Rattle.node_rules.specs.Meters as meters
 use Rattle.node_rules.specs.Drafts.{Draft, Ends, alone, empty_draft, tag_write, with_rank, with_own_number, with_next_tag, with_ring, with_routing_by, goes}
 use Rattle.node_rules.specs.Drafts.{body_goes, waits, leave}
-use Rattle.node_rules.specs.Hearing.{dropped}
+use Rattle.node_rules.specs.HearingRules.{dropped}
 use Rattle.node_rules.specs.MemoryDrafts.{in_memory, on_station, station_part, with_memory_by, with_pair_tags, goes_up, goes_down, with_station, give_random}
 use Rattle.node_rules.specs.MemoryDrafts.{given_ends}
 use Rattle.node_rules.specs.NodeSteps.{of_station}
 use Rattle.node_rules.specs.Laws.{all_put, IsWhole, IsCutOff}
-use Rattle.node_rules.proofs.Writing.{clean}
+use Rattle.node_rules.proofs.FailedWrites.{clean}
 use Rattle.line_laws.proofs.Planned.{Planned, Refuses, Keeps, Ended}
 use Rattle.line_laws.proofs.Made.{RingWord, Carry, Install, Given, TakesTag, Made, Starts, Ranks, Numbers, Tags, Rings, Idles, Loses, Goes, Sends, Waits}
 use Rattle.line_laws.proofs.Made.{Leaves}
@@ -220,7 +220,7 @@ abbrev Installed : Granted → RingWord → Type 0
 Installed granted w = w ≡ Install granted
 
 module _ (m : Memory) where
-  pub random_away : (value : Rand) → Each Away (give_random m value).puts
+  pub random_away : (value : RandomOctets) → Each Away (give_random m value).puts
   random_away value = plan_away NoWord no_word NoGrant NoPair NoEui (call_given 0 0 0) m given_ends Nothing AnyAnswer _
       (random_is NoWord NoGrant NoPair NoEui (call_given 0 0 0) m value)
 

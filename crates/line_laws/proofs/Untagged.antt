@@ -4,7 +4,7 @@ use Rattle.std.specs.Prelude.{⊤, if◌then◌else◌, is_some, ◌==◌, ◌&&
 use Rattle.std.specs.Option.{option_map_or}
 use Rattle.plc_base.specs.declared.address.Eui.{Eui}
 use Rattle.plc_base.specs.declared.key.Key.{Key}
-use Rattle.plc_base.specs.declared.key.Rand.{Rand}
+use Rattle.plc_base.specs.declared.key.RandomOctets.{RandomOctets}
 use Rattle.plc_base.specs.Grant.{Granted}
 use Rattle.group_keys.specs.declared.key_book.BookEntry.{BookEntry}
 use Rattle.group_keys.specs.KeyBook as book
@@ -18,16 +18,16 @@ use Rattle.node_rules.specs.declared.refusal.RandomFault.TheVariants.{RandomsFul
 use Rattle.node_rules.specs.Frames.{Arrived}
 use Rattle.node_rules.specs.Memory.{StationMemory, Memory, Node, next_hop}
 use Rattle.node_rules.specs.Plans.{Plan, carry_out, resting}
-use Rattle.node_rules.specs.Accepting.{Accepting, accept, marking}
+use Rattle.node_rules.specs.Acceptance.{Accepting, accept, marking}
 use Rattle.node_rules.specs.Calls as calls
 use Rattle.node_rules.specs.Drafts.{Draft, Ends, alone, empty_draft, checked, choose, sealed, sealing, refused, counters_left, with_ring}
-use Rattle.node_rules.specs.Joining.{message, server_for}
+use Rattle.node_rules.specs.JoiningPackets.{message, server_for}
 use Rattle.node_rules.specs.MemoryDrafts.{in_memory, on_station, with_memory_by, is_commanded, oldest, give_random, given_ends}
 use Rattle.node_rules.specs.Coordinators as coordinators
 use Rattle.node_rules.specs.Meters.{provision}
 use Rattle.node_rules.specs.NodeSteps.{NodeStep, acts, stays, left_by, of_station}
 use Rattle.node_rules.specs.Laws.{IsWhole, IsCutOff}
-use Rattle.node_rules.proofs.Writing.{clean}
+use Rattle.node_rules.proofs.FailedWrites.{clean}
 use Rattle.line_laws.proofs.Planned.{Planned, Refuses, Keeps, Ended}
 use Rattle.line_laws.proofs.Made.{RingWord, Given, Made}
 use Rattle.line_laws.proofs.CallForms.{Few, Nothing, send_is, near_is}
@@ -193,7 +193,7 @@ pub rested_untagged : {A : Type 0} (m : Memory) (answer failed : A) → Untagged
 unfolding resting
 rested_untagged m answer failed = (refl, refl)
 
-pub random_untagged : (m : Memory) (value : Rand) → Untagged (give_random m value)
+pub random_untagged : (m : Memory) (value : RandomOctets) → Untagged (give_random m value)
 unfolding choose empty_draft resting with_memory_by
 random_untagged m value = by_room (nat_lt 7 (length m.randoms))
   where

@@ -12,7 +12,7 @@ use Rattle.line_laws.proofs.IssueWorlds.{Keyed}
 use Rattle.line_laws.proofs.LiveRuns.{event_falls}
 use Rattle.line_laws.proofs.OctetRuns.{WorldSpeaks}
 use Rattle.line_laws.proofs.RangeRuns.{WorldRanged, ordered_well, short_at, joins}
-use Rattle.line_laws.proofs.Readings.{network_ranges}
+use Rattle.line_laws.proofs.StorableGrants.{network_ranges}
 use Rattle.line_laws.proofs.Worlds.{WorldOk}
 
 -- What holds of a world of the network that was reached with no event forged.

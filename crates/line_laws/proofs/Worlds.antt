@@ -16,10 +16,10 @@ use Rattle.line_rules.specs.Steps.{world_after, flights_of, flight_by}
 use Rattle.line_rules.specs.Nonces.{CounterRises}
 use Rattle.frame_counters.proofs.Limits.{stored_limit-kept}
 use Rattle.line_laws.proofs.Frontiers.{next_of, frontier}
-use Rattle.line_laws.proofs.Rising.{IsBelow, Grown, grows}
+use Rattle.line_laws.proofs.CounterOrder.{IsBelow, Grown, grows}
 use Rattle.line_laws.specs.Stores.{IsKept, HasEui}
 use Rattle.line_laws.specs.Owed.{KeepsRanges}
-use Rattle.line_laws.proofs.Keeping.{Left}
+use Rattle.line_laws.proofs.KeptMemory.{Left}
 use Rattle.line_laws.proofs.Nodes.{NodeOk, DidFits, DidOk}
 pub use Rattle.line_laws.specs.Lines.{NodeFits, FlightFits, Rising, WorldOk}
 

@@ -1,7 +1,7 @@
 -- What the pair tags that were made say of the joinings that were taken.
 use Rattle.std.specs.Prelude.{◌≡◌, ℕ, List, Some, slice_get, ⊤}
 use Rattle.plc_base.specs.declared.address.Eui.{Eui}
-use Rattle.plc_base.specs.declared.key.Rand.{Rand}
+use Rattle.plc_base.specs.declared.key.RandomOctets.{RandomOctets}
 use Rattle.plc_base.specs.declared.tags.PairTag.{PairTag}
 use Rattle.plc_base.specs.declared.tags.PairTag.TheVariants as tags
 use Rattle.eap_psk.specs.Messages.{fourth_head}
@@ -12,7 +12,7 @@ use Rattle.line_rules.specs.Worlds.{World, Pairing}
 use Rattle.line_laws.specs.Keyed.{Among, Each}
 
 -- What a tag with nonce 1 says of a taking: by the meter of this number, whose EUI it names, with these random values.
-pub record IsTakenBy (nodes : List Node) (taken : List Pairing) (eui : Eui) (rand_p : Rand) (header : List ℕ) : Type 0 where
+pub record IsTakenBy (nodes : List Node) (taken : List Pairing) (eui : Eui) (rand_p : RandomOctets) (header : List ℕ) : Type 0 where
   pub number : ℕ
   pub node : Node
   pub there : slice_get nodes number ≡ Some node

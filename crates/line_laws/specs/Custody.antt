@@ -20,7 +20,7 @@ weigh n note k = cond (eqb note n) k 0
 abbrev pub below : ℕ → ℕ → ℕ
 below i size = cond (nat_lt i size) 1 0
 
--- 1 where the position lies in so many octets from there on
+-- 1 where the position lies in this many octets from there on
 abbrev pub covers : ℕ → ℕ → ℕ → ℕ
 covers i from count = cond (nat_le from i && nat_lt i (from + count)) 1 0
 

@@ -5,7 +5,7 @@ use Rattle.broadcast_log.specs.declared.broadcast.Broadcast.{Broadcast}
 use Rattle.broadcast_log.specs.OriginMarks.{keep_write}
 use Rattle.reach_rules.specs.Broadcasts.{broadcast_fault}
 use Rattle.reach_rules.specs.ReachingNodes.{Beside}
-use Rattle.reach_rules.specs.Receiving.{NeighbourCommand}
+use Rattle.reach_rules.specs.FurtherReceptions.{NeighbourCommand}
 use Rattle.line_laws.specs.Keyed.{Each}
 use Rattle.line_laws.specs.Later.{Keeps}
 use Rattle.node_rules.specs.Ciphers.{network}
@@ -13,7 +13,7 @@ use Rattle.node_rules.specs.MemoryDrafts.{in_memory}
 use Rattle.reach_rules.specs.declared.refusal.BroadcastRefusal.TheVariants as broadcasts_by
 use Rattle.reach_rules.specs.declared.refusal.AskRefusal.TheVariants as asks_of
 use Rattle.reach_rules.specs.Broadcasts.{broadcast}
-use Rattle.reach_rules.specs.PathAsking.{ask_path}
+use Rattle.reach_rules.specs.PathRequests.{ask_path}
 use Rattle.line_rules.specs.Further.{reaches}
 use Rattle.line_rules.specs.Steps.{Step, world_after}
 use Rattle.line_laws.specs.Later.{IsOfLog}

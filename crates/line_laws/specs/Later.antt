@@ -19,7 +19,7 @@ use Rattle.node_rules.specs.Drafts.{Ends, alone, counters_left, empty_draft, goe
 use Rattle.node_rules.specs.Frames.{Sent, Sealed, spelled}
 use Rattle.node_rules.specs.Memory.{StationMemory, Memory, Node}
 use Rattle.node_rules.specs.NodeSteps.{NodeStep, acts, of_station, stays}
-use Rattle.node_rules.specs.Composing.{behind}
+use Rattle.node_rules.specs.ComposedPlans.{behind}
 use Rattle.node_rules.specs.Plans.{Plan}
 use Rattle.reach_rules.specs.ReachingNodes.{Beside}
 use Rattle.line_rules.specs.Nonces.{HasSender, IsSpelled}
@@ -85,7 +85,7 @@ pub record Holds (given : List Issued) (sent : List Sending) (taken : List Pairi
   pub joinings : Confirmed w taken
   -- ranks and routes
   pub routes : RoutingHolds network (homes_of keyed.book w) w
-  -- tags and custody, where so many flights are live
+  -- tags and custody, where this many flights are live
   pub tags : TagsOk w sent
   pub custody : Custody network live (SentUnder home all) home w ups
 
@@ -169,7 +169,7 @@ DiscoveringKeeps =
 
 -- # What is not sent after all
 
--- the flights that a step would have sent are not sent: the first so many are there
+-- the flights that a step would have sent are not sent: the first this many are there
 abbrev pub unsent : ℕ → World → World
 unsent count w = record w { flights = take count w.flights }
 

@@ -5,12 +5,12 @@ use Rattle.std.specs.Option.{option_map_or}
 use Rattle.plc_base.specs.declared.address.Eui.{Eui}
 use Rattle.mac_frames.specs.declared.head.MacHead.{MacHead}
 use Rattle.mac_frames.specs.declared.head.MacHead.TheVariants as heads
-use Rattle.mac_frames.specs.Reading.{head_in}
+use Rattle.mac_frames.specs.Reader.{head_in}
 use Rattle.frame_counters.specs.PeerMarks as marks
 use Rattle.group_keys.specs.KeyBook as books
 use Rattle.node_rules.specs.Ciphers.{Ciphers}
 use Rattle.node_rules.specs.Memory.{Memory, Role, Coordinator, Meter, Node}
-use Rattle.node_rules.specs.StoreReading.{memory_of}
+use Rattle.node_rules.specs.RestartStates.{memory_of}
 use Rattle.line_rules.specs.Forgery.{Comes, accepting}
 use Rattle.line_rules.specs.Runs.{Entry, IsLineRun}
 use Rattle.line_rules.specs.Steps.{memory_by}

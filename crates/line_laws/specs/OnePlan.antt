@@ -17,7 +17,7 @@ use Rattle.node_rules.specs.NodeSteps.{NodeStep, acts}
 use Rattle.node_rules.specs.Plans.{Plan}
 use Rattle.reach_rules.specs.CheckedReplies.{acknowledged, acknowledges, is_unbelieved, message_of}
 use Rattle.reach_rules.specs.ReachingNodes.{Beside, command_answer, followed_by, known_answer}
-use Rattle.reach_rules.specs.Receiving.{NeighbourCommand, command_of, hear_command, hear_reaching}
+use Rattle.reach_rules.specs.FurtherReceptions.{NeighbourCommand, command_of, hear_command, hear_reaching}
 use Rattle.reach_rules.specs.declared.refusal.ReachDropped.TheVariants as reach_drops
 use Rattle.line_rules.specs.Answers.{coordinator_reception, meter_reception}
 use Rattle.line_rules.specs.Further.{acknowledging, is_reply_taken, reaches}

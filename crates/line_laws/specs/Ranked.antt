@@ -6,11 +6,11 @@ use Rattle.mesh_header.specs.declared.unit.Mesh.{Mesh}
 use Rattle.mesh_header.specs.declared.unit.Unit.{Unit as MeshUnit}
 use Rattle.mesh_header.specs.declared.unit.Unit.TheVariants as units
 use Rattle.mesh_header.specs.Pieces.{Placed}
-use Rattle.mesh_header.specs.Reading.{unit_in}
+use Rattle.mesh_header.specs.Reader.{unit_in}
 use Rattle.loadng_messages.specs.declared.message.Message.{Message}
 use Rattle.loadng_messages.specs.declared.message.Message.TheVariants.{Rreq, Rrep, Rerr}
 use Rattle.loadng_messages.specs.Grammar as messages
-use Rattle.loadng_messages.specs.Reading.{message_in}
+use Rattle.loadng_messages.specs.Reader.{message_in}
 use Rattle.group_keys.specs.KeyBook as books
 use Rattle.routing_set.specs.declared.rank.Rank.{Rank}
 use Rattle.routing_set.specs.Ranks.{Beats, IsAtLeast}

@@ -15,8 +15,8 @@ use Rattle.reach_rules.specs.declared.refusal.ReachDropped.TheVariants as reach_
 use Rattle.reach_rules.specs.Beacons.{choose_agent}
 use Rattle.reach_rules.specs.Broadcasts.{broadcast}
 use Rattle.reach_rules.specs.CheckedReplies.{message_of}
-use Rattle.reach_rules.specs.PathAsking.{ask_path}
-use Rattle.reach_rules.specs.Receiving.{NeighbourCommand, command_of, hear_command}
+use Rattle.reach_rules.specs.PathRequests.{ask_path}
+use Rattle.reach_rules.specs.FurtherReceptions.{NeighbourCommand, command_of, hear_command}
 use Rattle.line_events.specs.declared.event.Event.{Event}
 use Rattle.line_rules.specs.Answers.{Reception}
 use Rattle.line_events.specs.Events.{IsEvent, IsLineOctets}

@@ -6,15 +6,15 @@ use Rattle.std.specs.Option.{option_map}
 use Rattle.plc_base.specs.declared.key.Key.{Key}
 use Rattle.mesh_header.specs.declared.unit.Unit.{Unit as MeshUnit}
 use Rattle.mesh_header.specs.declared.unit.Unit.TheVariants as units
-use Rattle.mesh_header.specs.Reading.{unit_in}
+use Rattle.mesh_header.specs.Reader.{unit_in}
 use Rattle.loadng_messages.specs.declared.message.Message.TheVariants.{Rrep}
 use Rattle.broadcast_log.specs.declared.broadcast.Broadcast.{Broadcast}
-use Rattle.broadcast_log.specs.Reading.{broadcast_in}
+use Rattle.broadcast_log.specs.Reader.{broadcast_in}
 use Rattle.neighbour_checks.specs.Acks.{ack_in}
 use Rattle.pan_discovery.specs.declared.message.Discovery.TheVariants.{Beacon}
-use Rattle.pan_discovery.specs.Reading.{discovery_in}
+use Rattle.pan_discovery.specs.Reader.{discovery_in}
 use Rattle.path_requests.specs.declared.message.PathMessage.TheVariants.{Tell}
-use Rattle.path_requests.specs.Reading.{path_in}
+use Rattle.path_requests.specs.Reader.{path_in}
 use Rattle.node_rules.specs.Accepted.{Accepted}
 use Rattle.node_rules.specs.declared.heard.Path.TheVariants as paths
 use Rattle.node_rules.specs.Ciphers.{network}

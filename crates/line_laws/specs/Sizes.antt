@@ -1,6 +1,6 @@
 -- What a node holds beside its store is within its sizes, whatever the ciphers are.
 use Rattle.std.specs.Prelude.{◌<◌, ◌≤◌, ◌^◌, All, length}
-use Rattle.fragment_buffers.specs.Taking.{blocks_held}
+use Rattle.fragment_buffers.specs.PieceIntake.{blocks_held}
 use Rattle.node_rules.specs.Memory.{StationMemory, Body, Load, Datagram, Command, Memory}
 use Rattle.node_rules.specs.Laws.{WaitingFits}
 

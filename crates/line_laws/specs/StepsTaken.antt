@@ -2,7 +2,7 @@
 use Rattle.std.specs.Prelude.{◌≡◌, ◌⊎◌, ℕ, true, false, List, [], ◌∷◌, Some, IfSome}
 use Rattle.mesh_header.specs.declared.unit.Unit.TheVariants as units
 use Rattle.path_requests.specs.declared.message.PathMessage.TheVariants.{Ask}
-use Rattle.path_requests.specs.Reading.{path_in}
+use Rattle.path_requests.specs.Reader.{path_in}
 use Rattle.path_requests.specs.Walks.{ends_with}
 use Rattle.node_rules.specs.Ciphers.{network}
 use Rattle.node_rules.specs.Memory.{Node, node_address, node_route}

@@ -19,7 +19,7 @@ use Rattle.routing_set.specs.Histories.{IsRouting}
 use Rattle.routing_set.specs.OwnNumber as own_number
 use Rattle.node_rules.specs.Memory.{StationMemory, Memory, Role, Coordinator, Meter, CoordinatorSession}
 use Rattle.node_rules.specs.Drafts.{tag_slot}
-use Rattle.node_rules.specs.StoreReading.{tag_in}
+use Rattle.node_rules.specs.RestartStates.{tag_in}
 
 -- the record of a key that may be held is 17 octets
 abbrev pub IsHeld : Option Key → Type 0

@@ -5,7 +5,7 @@ use Rattle.line_rules.specs.Runs.{Entry, sends, IsLineRun}
 use Rattle.line_rules.specs.Worlds.{World, Sending, node_at}
 use Rattle.node_rules.specs.Ciphers.{Ciphers}
 use Rattle.node_rules.specs.Memory.{Node}
-use Rattle.node_rules.specs.StoreReading.{tag_in}
+use Rattle.node_rules.specs.RestartStates.{tag_in}
 use Rattle.line_laws.specs.Laws.{FlightsAreOctets}
 use Rattle.line_laws.specs.Owed.{KeepsRanges}
 

@@ -57,7 +57,7 @@ count_step rows members node count link = cond (is_some (agent_at rows members n
 unfoldable pub agent_count : List (List Link) → List Member → ℕ → ℕ
 agent_count rows members node = fold (count_step rows members node) 0 (hearers rows node)
 
--- the agent with so many before it
+-- the agent with this many before it
 unfoldable pub nth_agent : List (List Link) → List Member → ℕ → ℕ → Option Agent
 nth_agent rows members node zero = next_agent rows members node None
 nth_agent rows members node (suc k) = next_agent rows members node (nth_agent rows members node k)

@@ -59,7 +59,7 @@ member_at node members = unwrap_or (slice_get members node) no_member
 unfoldable pub with_member : ℕ → Member → List Member → List Member
 with_member node m members = cond (ltb node (length members)) (slice_set members node m) members
 
--- of the nodes from a number on, the chosen one with so many chosen before it
+-- of the nodes from a number on, the chosen one with this many chosen before it
 abbrev pub nth_of : Choice → ℕ → ℕ → List Member → Option ℕ
 nth_of choice before node [] = None
 nth_of choice before node (m ∷ ms) =

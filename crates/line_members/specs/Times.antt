@@ -5,6 +5,6 @@ use Rattle.std.specs.Prelude.{ℕ, ◌+◌, ◌-◌, ◌*◌, ◌^◌, min}
 unfoldable pub micros : ℕ → ℕ
 micros seconds = min (seconds * 1000000) (2 ^ 64 - 1)
 
--- a time so many microseconds on
+-- a time this many microseconds on
 unfoldable pub later : ℕ → ℕ → ℕ
 later now more = min (now + more) (2 ^ 64 - 1)

@@ -15,7 +15,7 @@ pub enum Task {
     PutRounds(u32),
     /// The meters from the second on draw when they send in a round, the first.
     DrawReads(u32, u32),
-    /// A node is given random values until it holds so many, the second.
+    /// A node is given random values until it holds this many, the second.
     Give(u32, u32),
     /// A meter tries to join.
     TryJoin(u32),
@@ -27,7 +27,7 @@ pub enum Task {
     Refresh,
     /// All meters are to be asked for a round.
     BeginPolls(u32),
-    /// So many meters more are asked.
+    /// This many meters more are asked.
     OpenPolls(u64),
     /// The next meter is asked.
     NextPoll,
@@ -39,17 +39,17 @@ pub enum Task {
     Reply(u32, u32),
     /// The key at an index is changed.
     BeginChange(u8),
-    /// So many meters more are challenged.
+    /// This many meters more are challenged.
     OpenChallenges(u64),
     /// The next meter is challenged.
     NextChallenge,
     /// A meter is challenged.
     Challenge(u32),
-    /// The meter with so many before it is ordered to the new key, in so manieth an order.
+    /// The meter with this many before it is ordered to the new key, in so manieth an order.
     Order(u32, u64),
     /// The coordinator seals with the new key.
     EndChange,
-    /// The power of a node fails for so many seconds.
+    /// The power of a node fails for this many seconds.
     Fail(u32, u64),
     /// The power of a node comes back.
     Restore(u32),
@@ -66,8 +66,8 @@ pub enum Command {
     Depot(u32),
     /// A meter is allowed.
     Allow(u32),
-    /// A node is given a random value; it is to hold so many, the second.
-    Rand(u32, u32, [u8; 16]),
+    /// A node is given a random value; it is to hold this many, the second.
+    RandomOctets(u32, u32, [u8; 16]),
     /// A meter asks to join by an agent, the second.
     Join(u32, u32),
     /// A meter leaves.
@@ -95,7 +95,7 @@ pub enum Saying {
     Refused(Command),
     /// A meter gives up its keys and joins again.
     Leaves(u32),
-    /// A meter was not reached in so many challenges.
+    /// A meter was not reached in this many challenges.
     Unreached(u32, u64),
     /// A key was drawn for an index, or it was not.
     KeyDrawn(u8),
@@ -114,7 +114,7 @@ pub enum Act {
     Do(Task),
     /// A remark is written.
     Say(Saying),
-    /// A node has no power for so many seconds: its queue is gone.
+    /// A node has no power for this many seconds: its queue is gone.
     Dark(u32, u64),
 }
 
@@ -154,6 +154,6 @@ pub enum Notice {
     Took(u32),
     /// The joining of a meter, or the change of its key, is done.
     Done(u32),
-    /// The power of a node fails in one of its next writes, for so many seconds.
+    /// The power of a node fails in one of its next writes, for this many seconds.
     Torn(u32, u64),
 }

@@ -170,7 +170,7 @@ impl Members {
         self.members[node as usize] = member;
     }
 
-    /// The node with so many chosen ones before it that is chosen itself.
+    /// The node with this many chosen ones before it that is chosen itself.
     pub fn nth(&self, choice: Choice, before: u32) -> Option<u32>
         ensures { result ≡ nth_of choice before 0 self.now }
     {

@@ -74,7 +74,7 @@ fn fill(count: usize, out: &mut Vec<u8>) -> Result<(), AllocError>
 }
 
 impl Message {
-    /// Appends its octets. A reading has so many octets.
+    /// Appends its octets. A reading has this many octets.
     #[tactic(auto, unfolding(crate::specs::Messages::message_octets))]
     pub fn write(&self, octets: usize, out: &mut Vec<u8>) -> Result<(), AllocError>
         ensures { OnOk result (out.new.items ≡ out.old.items ++ message_octets octets self.now) }

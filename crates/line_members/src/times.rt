@@ -10,7 +10,7 @@ pub fn micros(seconds: u64) -> u64
     seconds.saturating_mul(1_000_000)
 }
 
-/// A time so many microseconds on, at most 2^64 - 1.
+/// A time this many microseconds on, at most 2^64 - 1.
 #[tactic(auto, unfolding(crate::specs::Times::later))]
 pub fn later(now: u64, more: u64) -> u64
     ensures { result ≡ later now more }

@@ -32,7 +32,7 @@ enters node o =
     (does o (Two (Step (Allow node)) (Do (Enter (more node))))))
     (cond o.settings.joining.depot (does o (One (Do (PutRounds 1)))) (does o (One (Do (DrawJoins 1)))))
 
--- a moment within so many seconds, in whole milliseconds: of a span of 49 days at most
+-- a moment within this many seconds, in whole milliseconds: of a span of 49 days at most
 abbrev pub span : ℕ → ℕ
 span seconds = min (max 1 (min (seconds * 1000) (2 ^ 64 - 1))) (2 ^ 32 - 1)
 

@@ -10,7 +10,7 @@ use Rattle.line_owner.specs.declared.settings.Settings.{Settings}
 use Rattle.line_members.specs.declared.acts.Act.TheVariants.{Step, Put, Dark}
 use Rattle.line_members.specs.declared.acts.Acts.{Acts}
 use Rattle.line_members.specs.declared.acts.Acts.TheVariants.{Nothing, One, Two}
-use Rattle.line_members.specs.declared.acts.Command.TheVariants.{Rand, Restart}
+use Rattle.line_members.specs.declared.acts.Command.TheVariants.{RandomOctets, Restart}
 use Rattle.line_members.specs.declared.acts.Task.TheVariants.{Restore, TryJoin}
 use Rattle.line_members.specs.Members.{member_at, with_member}
 use Rattle.line_members.specs.Asked.{with_reading}
@@ -51,11 +51,11 @@ timed o = record o { times = after o.times }
 abbrev pub keyed : OwnerState → OwnerState
 keyed o = record o { keys = after_key o.keys }
 
--- a node is given a random value, unless it holds so many
+-- a node is given a random value, unless it holds this many
 unfoldable pub gives : ℕ → ℕ → OwnerState → Turned
 gives node least o =
     let m = member_at node o.members in
-    cond (ltb m.rands least) (does (keyed o) (One (Step (Rand node least (key_octets o.keys))))) (rests o)
+    cond (ltb m.rands least) (does (keyed o) (One (Step (RandomOctets node least (key_octets o.keys))))) (rests o)
 
 -- a node has spent a random value
 abbrev pub spends : ℕ → OwnerState → OwnerState

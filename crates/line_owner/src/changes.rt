@@ -94,7 +94,7 @@ impl Owner {
         change_acts(self.settings.rotation.order, index, count)
     }
 
-    // So many meters more are challenged.
+    // This many meters more are challenged.
     #[tactic(auto, unfolding(crate::specs::Changes::opens_challenges))]
     pub(crate) fn open_challenges(&mut self, count: u64) -> Acts
         ensures owner { self.new ≡ (opens_challenges count self.old).owner }

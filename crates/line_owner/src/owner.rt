@@ -28,7 +28,7 @@ pub struct Change {
     pub ordering: bool,
 }
 
-// One try more, of at most so many.
+// One try more, of at most this many.
 pub(crate) fn next_try(tries: u64, most: u64) -> u64
     requires { tries < most }
     ensures { result ≡ tries + 1 }
@@ -139,7 +139,7 @@ impl Owner {
         self.readings.set(node, round, reading)
     }
 
-    // Gives a node a random value, unless it holds so many.
+    // Gives a node a random value, unless it holds this many.
     #[tactic(auto, unfolding(crate::specs::States::gives))]
     pub(crate) fn give(&mut self, node: u32, least: u32) -> Acts
         ensures owner { self.new ≡ (gives node least self.old).owner }
@@ -147,7 +147,7 @@ impl Owner {
     {
         if self.member(node).rands < least {
             let value = self.draw_key();
-            return Acts::One(Act::Step(Command::Rand(node, least, value)));
+            return Acts::One(Act::Step(Command::RandomOctets(node, least, value)));
         }
         Acts::Nothing
     }
@@ -161,7 +161,7 @@ impl Owner {
         self.set_member(node, member);
     }
 
-    // Power of a node fails for so many seconds.
+    // Power of a node fails for this many seconds.
     #[tactic(auto, unfolding(crate::specs::States::fails))]
     pub(crate) fn fail(&mut self, now: u64, node: u32, seconds: u64) -> Acts
         ensures owner { self.new ≡ (fails now node seconds self.old).owner }

@@ -139,7 +139,7 @@ impl Owner {
         Acts::One(Act::Do(Task::OpenPolls(count)))
     }
 
-    // So many meters more are asked.
+    // This many meters more are asked.
     #[tactic(auto, unfolding(crate::specs::Reads::opens_polls))]
     pub(crate) fn open_polls(&mut self, count: u64) -> Acts
         ensures owner { self.new ≡ (opens_polls count self.old).owner }

@@ -7,7 +7,7 @@ use crate::settings::Settings;
 use line_members::{Act, Acts, Command, Task, later, micros, more};
 use plan_tables::Way;
 
-// A moment is drawn within so many seconds, in milliseconds.
+// A moment is drawn within this many seconds, in milliseconds.
 fn span(seconds: u64) -> u32
     ensures { result ≡ span seconds }
 {

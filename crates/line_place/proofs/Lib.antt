@@ -1,3 +1,3 @@
-pub mod Widening
+pub mod SearchRounds
 pub mod Connected
 pub mod Tries

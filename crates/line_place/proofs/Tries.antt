@@ -6,7 +6,7 @@ use Rattle.line_place.specs.declared.link.Losses.{Losses}
 use Rattle.line_place.specs.declared.link.Costs.{Costs}
 use Rattle.line_place.specs.declared.scattering.Field.{Field}
 use Rattle.line_place.specs.Hops.{AllHavePaths}
-use Rattle.line_place.specs.Scattering.{drawn_rows, tries_after, NoneBefore}
+use Rattle.line_place.specs.ScatteredSpots.{drawn_rows, tries_after, NoneBefore}
 
 pub none_at_first : (field : Field) (losses : Losses) (costs : Costs) (g : Lcg) → NoneBefore field losses costs g 0
 none_at_first field losses costs g j low = absurd (omega arith)

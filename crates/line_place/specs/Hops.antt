@@ -37,7 +37,7 @@ is_none (Some n) = false
 abbrev pub IsReachedBy : List (List Link) → List ℕ → ℕ → Type 0
 IsReachedBy rows front b = (k : ℕ) × ((a : ℕ) × ((slice_get front k ≡ Some a) × Reaches rows a b))
 
--- Nodes that are reached and had no hops have so many, and are listed after those that were listed.
+-- Nodes that are reached and had no hops have this many, and are listed after those that were listed.
 pub record IsWider (round : ℕ) (reached : ℕ → Type 0) (old : List (Option ℕ)) (before : List ℕ) (new : List (Option ℕ)) (next : List ℕ) : Type 0 where
   pub size : length new ≡ length old
   pub kept : (b n : ℕ) → slice_get old b ≡ Some (Some n) → slice_get new b ≡ Some (Some n)
@@ -48,7 +48,7 @@ pub record IsWider (round : ℕ) (reached : ℕ → Type 0) (old : List (Option 
   pub newly_listed : (b : ℕ) → Contains next b → Contains before b ⊎ (slice_get new b ≡ Some (Some round))
   pub count : count_by is_none new + length next ≡ count_by is_none old + length before
 
--- The nodes up to so many hops away have their hops, and those that are just so far are listed.
+-- The nodes up to this many hops away have their hops, and those that are just so far are listed.
 pub record AreAtMost (rows : List (List Link)) (round : ℕ) (hops : List (Option ℕ)) (front : List ℕ) : Type 0 where
   pub size : length hops ≡ length rows
   pub path : (b n : ℕ) → slice_get hops b ≡ Some (Some n) → HasPath rows n b

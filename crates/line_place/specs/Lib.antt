@@ -2,4 +2,4 @@ pub mod Spread
 pub mod Distances
 pub mod Rows
 pub mod Hops
-pub mod Scattering
+pub mod ScatteredSpots

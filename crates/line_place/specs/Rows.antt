@@ -9,7 +9,7 @@ use Rattle.line_place.specs.declared.layout.Layout.{Layout}
 use Rattle.line_place.specs.declared.matrix.MeasuredLink.{MeasuredLink}
 use Rattle.line_place.specs.Distances.{far}
 
--- the chance that a frame is lost so many steps past the nearest, in ten-thousandths and at most 99 per cent
+-- the chance that a frame is lost this many steps past the nearest, in ten-thousandths and at most 99 per cent
 unfoldable pub loss_at : Losses → ℕ → ℕ
 loss_at losses steps = min (losses.nearest + losses.step * steps) 9900
 
@@ -21,7 +21,7 @@ unfoldable pub cost_at : Costs → ℕ → ℕ
 cost_at ByLoss loss = cost_by_loss loss
 cost_at (Same cost) loss = cost
 
--- the link to a node so many steps past the nearest
+-- the link to a node this many steps past the nearest
 unfoldable pub link_over : Losses → Costs → ℕ → ℕ → Link
 link_over losses costs to steps =
     record { to = to; loss = loss_at losses steps; cost = cost_at costs (loss_at losses steps) }
@@ -36,12 +36,12 @@ abbrev pub listed : {A : Type 0} → Option A → List A
 listed None = []
 listed (Some a) = a ∷ []
 
--- the links of a node to the first so many nodes
+-- the links of a node to the first this many nodes
 unfoldable pub row_to : Layout → Losses → Costs → ℕ → ℕ → List Link
 row_to layout losses costs a zero = []
 row_to layout losses costs a (suc b) = row_to layout losses costs a b ++ listed (link_at layout losses costs a b)
 
--- the links of the first so many nodes, to n nodes
+-- the links of the first this many nodes, to n nodes
 unfoldable pub rows_to : Layout → Losses → Costs → ℕ → ℕ → List (List Link)
 rows_to layout losses costs n zero = []
 rows_to layout losses costs n (suc a) =

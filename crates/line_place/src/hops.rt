@@ -44,7 +44,7 @@ impl Place {
         Ok(())
     }
 
-    // Gives so many hops to the nodes that frames of these nodes reach, where they have none yet, and lists them.
+    // Gives this many hops to the nodes that frames of these nodes reach, where they have none yet, and lists them.
     fn widen(
         &self,
         hops: &mut Vec<Option<usize>>,
@@ -85,7 +85,7 @@ fn no_hops(alloc: Global, nodes: usize) -> Result<Vec<Option<usize>>, AllocError
     Ok(hops)
 }
 
-// Gives so many hops to the hearers that have none yet, and lists them.
+// Gives this many hops to the hearers that have none yet, and lists them.
 fn reach_all(
     hops: &mut Vec<Option<usize>>,
     next: &mut Vec<u32>,
@@ -107,7 +107,7 @@ fn hop_of(hops: &[Option<usize>], node: u32) -> Option<Option<usize>>
     hops.get(node as usize).copied()
 }
 
-// Gives so many hops to a node that has none yet, and lists it.
+// Gives this many hops to a node that has none yet, and lists it.
 fn reach(
     hops: &mut Vec<Option<usize>>,
     next: &mut Vec<u32>,

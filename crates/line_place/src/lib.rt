@@ -17,7 +17,7 @@
 //! - `hops` gives the links of a shortest path for each node, and None exactly where no path leads there (`AreHops` of
 //!   `specs/Hops.antt`); `is_connected` is true exactly where a path leads to every node.
 //! - A scattered place is the first draw in which a path leads to every meter, and the draws that are left are those after it; `Apart` comes
-//!   exactly after 1,000 draws of which none is connected (`IsScattering` of `specs/Scattering.antt`).
+//!   exactly after 1,000 draws of which none is connected (`IsScattering` of `specs/ScatteredSpots.antt`).
 //! - Where memory runs out, nothing is said of what was drawn.
 //!
 //! No propagation is modelled: a loss is what the description says it is.

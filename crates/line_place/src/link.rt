@@ -32,7 +32,7 @@ pub enum Costs {
 }
 
 impl Losses {
-    /// The loss so many steps past the nearest, at most 9,900.
+    /// The loss this many steps past the nearest, at most 9,900.
     #[tactic(auto, unfolding(crate::specs::Rows::loss_at))]
     pub fn at(&self, steps: u32) -> u32
         ensures { result ≡ loss_at self.now steps }
@@ -64,7 +64,7 @@ fn cost_by_loss(loss: u32) -> u8
     ((80_000 + come - 1) / come).min(255) as u8
 }
 
-// The link to a node so many steps past the nearest.
+// The link to a node this many steps past the nearest.
 #[tactic(auto, unfolding(crate::specs::Rows::link_over))]
 pub(crate) fn link_over(losses: &Losses, costs: &Costs, to: u32, steps: u32) -> Link
     ensures { result ≡ link_over losses.now costs.now to steps }

@@ -28,7 +28,7 @@ impl Model for Place {
 }
 
 impl Place {
-    /// The place of so many nodes whose links follow from how far they are apart.
+    /// The place of this many nodes whose links follow from how far they are apart.
     #[tactic(auto, unfolding(crate::specs::Rows::rows_to))]
     pub fn on(
         alloc: Global,
@@ -46,7 +46,7 @@ impl Place {
         Ok(Place { rows })
     }
 
-    /// The place of so many nodes with the links that were measured, those of each sender in the order in which they are given.
+    /// The place of this many nodes with the links that were measured, those of each sender in the order in which they are given.
     /// Links of other senders are left out.
     #[tactic(auto, unfolding(crate::specs::Rows::measured_rows))]
     pub fn measured(alloc: Global, nodes: u32, links: &[MeasuredLink]) -> Result<Place, AllocError>

@@ -1,6 +1,6 @@
 //! Spots that are drawn until every node is reached.
 ghost use Rattle.std.specs.Prelude.{◌≡◌, IfOk, OnOk};
-ghost use Rattle.line_place.specs.Scattering.{spots_after, drawn_spots, drawn_rows, IsScattering};
+ghost use Rattle.line_place.specs.ScatteredSpots.{spots_after, drawn_spots, drawn_rows, IsScattering};
 
 use crate::{Costs, Layout, Losses, Place, Scatter, Spot};
 use air_draws::Draws;
@@ -33,7 +33,7 @@ pub enum Scattering {
 
 impl Field {
     // The spots of all nodes: the coordinator in the middle, then each meter where it is drawn.
-    #[tactic(auto, unfolding(crate::specs::Scattering::spots_after, crate::specs::Scattering::drawn_spots, crate::specs::Scattering::drawn_spot))]
+    #[tactic(auto, unfolding(crate::specs::ScatteredSpots::spots_after, crate::specs::ScatteredSpots::drawn_spots, crate::specs::ScatteredSpots::drawn_spot))]
     fn spots(&self, alloc: Global, draws: &mut Draws) -> Result<Vec<Spot>, AllocError>
         ensures spots { IfOk result (λ spots. spots.items ≡ drawn_spots self.now draws.old self.now.meters) }
         ensures after { OnOk result (draws.new ≡ spots_after draws.old self.now.meters) }
@@ -73,7 +73,7 @@ impl Field {
     }
 
     // The place of spots that are drawn once.
-    #[tactic(auto, unfolding(crate::specs::Scattering::drawn_rows))]
+    #[tactic(auto, unfolding(crate::specs::ScatteredSpots::drawn_rows))]
     fn one_try(
         &self,
         alloc: Global,

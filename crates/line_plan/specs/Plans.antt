@@ -94,7 +94,7 @@ abbrev pub incident_of : PlacePlan → ℕ → ℕ → Option Members → Result
 incident_of place meters nth None = Err not_tables
 incident_of place meters nth (Some members) = incident_at meters place (record { section = sections.At nth; members = members })
 
--- the nth incident, of a line with so many meters
+-- the nth incident, of a line with this many meters
 unfoldable pub incident_in : PlacePlan → ℕ → ℕ → Data → Result Incident WrongValue
 incident_in place meters nth d = incident_of place meters nth (as_table d)
 

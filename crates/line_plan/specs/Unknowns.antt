@@ -139,7 +139,7 @@ unknown_in top = or_else (unknown_of_line top) (or_else (unknown_of_owner top) (
 abbrev pub edits : List ℕ → Key → ℕ
 edits key one = levenshtein_row nat_eq (chars key) (chars (key_word one)) (length (chars (key_word one)))
 
--- the first with the fewest edits, where one with so many is the nearest before
+-- the first with the fewest edits, where one with this many is the nearest before
 abbrev pub nearer : Key → ℕ → List Key → List ℕ → Key
 nearer nearest fewest [] key = nearest
 nearer nearest fewest (one ∷ known) key =

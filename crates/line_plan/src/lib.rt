@@ -15,4 +15,4 @@ mod plan;
 mod reading;
 mod unknown;
 
-pub use plan::{IncidentList, OwnerPlan, Plan, Title};
+pub use plan::{IncidentList, OwnerPlan, Plan, PlanTitle};

@@ -26,11 +26,11 @@ pub struct OwnerPlan {
 
 /// The title of a line. A contract sees its octets.
 #[derive(Drop)]
-pub struct Title {
+pub struct PlanTitle {
     text: String,
 }
 
-impl Model for Title {
+impl Model for PlanTitle {
     ghost use Rattle.std.specs.Prelude.{List, ℕ, string_bytes};
 
     ghost Value = { List ℕ };
@@ -38,7 +38,7 @@ impl Model for Title {
     ghost view = { λ t. string_bytes t.text };
 }
 
-impl Title {
+impl PlanTitle {
     /// The title.
     pub fn text(&self) -> &str
         ensures { result.now ≡ self.now }
@@ -75,7 +75,7 @@ impl IncidentList {
 #[derive(Drop)]
 pub struct Plan {
     /// What the line is called.
-    pub title: Title,
+    pub title: PlanTitle,
     /// What all draws follow from.
     pub seed: u64,
     /// How long the run is, in seconds.
@@ -194,7 +194,7 @@ fn is_line(text: &str) -> bool
 }
 
 #[tactic(auto, unfolding(crate::specs::Plans::title_in))]
-fn title_in(alloc: Global, value: &Value) -> Result<Option<Title>, AllocError>
+fn title_in(alloc: Global, value: &Value) -> Result<Option<PlanTitle>, AllocError>
     ensures { IfOk result (λ title. title ≡ title_in (view value.now)) }
 {
     let Some(text) = value.as_str() else {
@@ -204,17 +204,17 @@ fn title_in(alloc: Global, value: &Value) -> Result<Option<Title>, AllocError>
         return Ok(None);
     }
     let text = String::from_str(alloc, text)?;
-    Ok(Some(Title { text }))
+    Ok(Some(PlanTitle { text }))
 }
 
 #[tactic(auto, unfolding(crate::specs::Plans::title_at))]
-fn title_at(alloc: Global, top: &Fields<'_>) -> Result<Result<Title, WrongValue>, AllocError>
+fn title_at(alloc: Global, top: &Fields<'_>) -> Result<Result<PlanTitle, WrongValue>, AllocError>
     ensures { IfOk result (λ read. read ≡ title_at (table_of top.now)) }
 {
     match top.get(Key::Title) {
         None => {
             let text = String::from_str(alloc, "a line")?;
-            Ok(Ok(Title { text }))
+            Ok(Ok(PlanTitle { text }))
         }
         Some(value) => {
             let read = title_in(alloc, value)?;
@@ -279,7 +279,7 @@ fn incidents_from(
     Ok(Ok(IncidentList { incidents }))
 }
 
-#[tactic(auto, unfolding(crate::specs::Plans::incidents_in), using(plan_tables::proofs::Listing::listed_view))]
+#[tactic(auto, unfolding(crate::specs::Plans::incidents_in), using(plan_tables::proofs::ArrayItems::listed_view))]
 fn incidents_in(
     alloc: Global,
     place: &PlacePlan,

@@ -33,7 +33,7 @@ fn is_known(known: &[Key], key: &str) -> bool
 }
 
 // The first key of a table that is not among some.
-#[tactic(auto, using(crate::proofs::Listing::names_view))]
+#[tactic(auto, using(crate::proofs::MemberNames::names_view))]
 fn stranger<'a>(table: &'a Table, known: &[Key]) -> Option<&'a str>
     ensures { option_map (λ key. key.now) result ≡ stranger known.now (table_view table.now) }
 {
@@ -152,7 +152,7 @@ fn unknown_of_incidents(values: &[Value]) -> Option<Unknown<'_>>
 }
 
 // In the incidents, where there are some.
-#[tactic(auto, unfolding(crate::specs::Unknowns::unknown_among), using(plan_tables::proofs::Listing::listed_view))]
+#[tactic(auto, unfolding(crate::specs::Unknowns::unknown_among), using(plan_tables::proofs::ArrayItems::listed_view))]
 fn unknown_among(top: &Table) -> Option<Unknown<'_>>
     ensures { option_map unknown_view result ≡ unknown_among (table_view top.now) }
 {

@@ -25,7 +25,7 @@ use Rattle.line_progress.specs.Arrival.{Stop, IsReady, HasRoute, AreReady, IsNon
 use Rattle.line_progress.specs.AnyOrder.{flights_over, in_all, none_over, ways_at_first, ways_after, next_after, delivery_over, answer_over}
 use Rattle.line_progress.specs.AnyOrder.{IsOrder, deliveries_over, answers_over, DatagramsArriveInAnyOrder}
 use Rattle.line_progress.proofs.Contents.{Content, IsContent}
-use Rattle.line_progress.proofs.Arriving.{InFrames, IsHanded, moved, all_at_first, cut_of, sent_so}
+use Rattle.line_progress.proofs.RouteArrivals.{InFrames, IsHanded, moved, all_at_first, cut_of, sent_so}
 use Rattle.line_progress.proofs.Routes.{AreFit, IsNow, AreNow, IsUnderWay, Ends, Says, fit_of, last_ready, says_first, runs_on, still, get_before}
 use Rattle.line_progress.proofs.Routes.{came, step_is, end, comes_last, last_now, comes_on, on_now, on_its_way}
 
@@ -99,13 +99,13 @@ module _ (ciphers : Ciphers) (dest origin : ℕ) (contents : ℕ → Content) wh
   AreFlying w number s t more [] = Unit {0}
   AreFlying w number s t more (flight ∷ flights) = IsFlying w number s t more flight × AreFlying w (number + 1) s t more flights
 
-  -- A link over which so many of the frames that were sent have come.
+  -- A link over which this many of the frames that were sent have come.
   record IsGoing (w : World) (sent done : ℕ) (held : List Reassembly) (s t : Stop) (more : ℕ) (flights : List ℕ) : Type 0 where
     all : done + length flights ≡ sent
     now : IsNow w dest s.granted.address (s.memory.station.counter.next + done) done held t
     fly : AreFlying w done s t more flights
 
-  -- each link of a route, to whose end so many have come
+  -- each link of a route, to whose end this many have come
   abbrev AreGoing : World → (arrived : ℕ) → List Reassembly → (sent : ℕ) → Stop → List Stop → List (List ℕ) → Type 0
   AreGoing w arrived held sent s [] [] = sent ≡ arrived
   AreGoing w arrived held sent s [] (flights ∷ ways) = ⊥

@@ -8,15 +8,15 @@ use Rattle.plc_base.specs.Grant.{Granted}
 use Rattle.mesh_header.specs.declared.unit.Mesh.{Mesh}
 use Rattle.mesh_header.specs.declared.unit.Unit.{Unit as MeshUnit}
 use Rattle.mesh_header.specs.declared.unit.Unit.TheVariants as units
-use Rattle.mesh_header.specs.Reading.{unit_in}
+use Rattle.mesh_header.specs.Reader.{unit_in}
 use Rattle.loadng_messages.specs.declared.message.Message.{Message}
 use Rattle.loadng_messages.specs.declared.message.Message.TheVariants.{Rreq, Rrep, Rerr}
-use Rattle.loadng_messages.specs.Reading.{message_in}
+use Rattle.loadng_messages.specs.Reader.{message_in}
 use Rattle.routing_set.specs.declared.rank.Rank.{Rank}
 use Rattle.routing_set.specs.RoutingSet as routing
 use Rattle.fragment_buffers.specs.Loads.{UnsealedUnit}
-use Rattle.fragment_buffers.specs.Taking as pieces
-use Rattle.fragment_buffers.specs.Waiting.{units_by, waits_for}
+use Rattle.fragment_buffers.specs.PieceIntake as pieces
+use Rattle.fragment_buffers.specs.WaitingBodies.{units_by, waits_for}
 use Rattle.node_rules.specs.declared.heard.Heard.{Heard}
 use Rattle.node_rules.specs.declared.heard.Heard.TheVariants as heard
 use Rattle.node_rules.specs.declared.heard.Path.{Path}
@@ -26,11 +26,12 @@ use Rattle.node_rules.specs.declared.refusal.Dropped.TheVariants as drops
 use Rattle.node_rules.specs.Drafts.{Draft, alone, choose, checked, counters_left, empty_draft, goes, leave, refused, sealed, sealed_by, sealed_units, sealing}
 use Rattle.node_rules.specs.Drafts.{numbers_spent, sealing_key, with_own_number, with_rank, with_routing_by}
 use Rattle.node_rules.specs.Frames.{Sent, to_all}
-use Rattle.node_rules.specs.Hearing.{Hearing, drop_it, dropped, ends, forward, forward_by, gathered, hear_command}
-use Rattle.node_rules.specs.Hearing.{hear_message, hear_message_in}
-use Rattle.node_rules.specs.Hearing.{hear_over_mesh, hear_plain, hear_reply, hear_reply_for, hear_request, hear_sealed, hear_unit, hear_unit_in, is_joining}
-use Rattle.node_rules.specs.Hearing.{is_spent}
-use Rattle.node_rules.specs.Hearing.{error_hop, loses, offers, offers_numbered, pass_error_on, rank_fault, rank_over, report_by}
+use Rattle.node_rules.specs.HearingRules.{Hearing, drop_it, dropped, ends, forward, forward_by, gathered, hear_command}
+use Rattle.node_rules.specs.HearingRules.{hear_message, hear_message_in}
+use Rattle.node_rules.specs.HearingRules.{hear_over_mesh, hear_plain, hear_reply, hear_reply_for, hear_request, hear_sealed, hear_unit, hear_unit_in}
+use Rattle.node_rules.specs.HearingRules.{is_joining}
+use Rattle.node_rules.specs.HearingRules.{is_spent}
+use Rattle.node_rules.specs.HearingRules.{error_hop, loses, offers, offers_numbered, pass_error_on, rank_fault, rank_over, report_by}
 use Rattle.node_rules.specs.Memory.{StationMemory, Body, next_hop}
 use Rattle.node_rules.specs.Plans.{resting}
 use Rattle.line_progress.specs.Lists.{Among, Here, Later}

@@ -7,7 +7,7 @@ use Rattle.group_keys.specs.KeyRing as ring
 use Rattle.mesh_header.specs.declared.unit.Unit.TheVariants as units
 use Rattle.broadcast_log.specs.declared.broadcast.Broadcast.{Broadcast}
 use Rattle.broadcast_log.specs.Grammar.{spelling}
-use Rattle.broadcast_log.specs.Reading.{broadcast_in}
+use Rattle.broadcast_log.specs.Reader.{broadcast_in}
 use Rattle.neighbour_checks.specs.Acks.{ack_in}
 use Rattle.neighbour_checks.specs.Neighbours.{acked_after, is_awaited}
 use Rattle.path_requests.specs.declared.message.PathMessage.{PathMessage}
@@ -15,8 +15,8 @@ use Rattle.path_requests.specs.declared.step.PathStep.{PathStep}
 use Rattle.path_requests.specs.declared.step.PathStep.TheVariants.{Forward, Answer as Answers, Done}
 use Rattle.path_requests.specs.declared.step.PathRefusal.{PathRefusal}
 use Rattle.path_requests.specs.declared.step.PathRefusal.TheVariants as path_faults
-use Rattle.path_requests.specs.Reading.{path_in}
-use Rattle.path_requests.specs.Taking.{taken}
+use Rattle.path_requests.specs.Reader.{path_in}
+use Rattle.path_requests.specs.PathSteps.{taken}
 use Rattle.node_rules.specs.declared.refusal.Dropped.TheVariants as drops
 use Rattle.node_rules.specs.Drafts.{Draft, checked, choose, counters_left, empty_draft, refused, sealed, sealed_by, sealed_units, sealing, sealing_key}
 use Rattle.node_rules.specs.Frames.{to_all}
@@ -29,9 +29,9 @@ use Rattle.reach_rules.specs.declared.refusal.ReachDropped.{ReachDropped}
 use Rattle.reach_rules.specs.declared.refusal.ReachDropped.TheVariants as reach_drops
 use Rattle.reach_rules.specs.Broadcasts.{admits_broadcast, broadcast_fault, goes_further, hear_broadcast, hear_broadcast_in, hop_less, with_broadcast_mark}
 use Rattle.reach_rules.specs.CheckedReplies.{hear_acknowledgement, hear_acknowledgement_in}
-use Rattle.reach_rules.specs.PathAsking.{follows_path, hear_path, hear_path_in, next_toward}
+use Rattle.reach_rules.specs.PathRequests.{follows_path, hear_path, hear_path_in, next_toward}
 use Rattle.reach_rules.specs.ReachingNodes.{Beside, Commanding, Reaching, adds_local, drop_it, in_reach, reach_ends, remembers, with_checks}
-use Rattle.reach_rules.specs.Receiving.{NeighbourCommand, hear_command_at}
+use Rattle.reach_rules.specs.FurtherReceptions.{NeighbourCommand, hear_command_at}
 use Rattle.line_progress.specs.BroadcastFates.{BroadcastsGoFurther, GoesFurther}
 
 -- what is answered is handed up

@@ -7,7 +7,7 @@ use Rattle.std.proofs.lemmas.Option.{same_Some}
 use Rattle.store_tables.proofs.SlotTables.{slice_get-set}
 use Rattle.mesh_header.specs.declared.unit.Unit.{Unit as MeshUnit}
 use Rattle.mesh_header.specs.declared.unit.Unit.TheVariants as units
-use Rattle.mesh_header.specs.Reading.{unit_in}
+use Rattle.mesh_header.specs.Reader.{unit_in}
 use Rattle.node_rules.specs.Accepted.{Accepted}
 use Rattle.node_rules.specs.declared.heard.Heard.TheVariants as heard_words
 use Rattle.node_rules.specs.declared.heard.Path.{Path}
@@ -18,24 +18,24 @@ use Rattle.node_rules.specs.declared.refusal.FrameRefusal.{FrameRefusal}
 use Rattle.node_rules.specs.declared.refusal.FrameRefusal.TheVariants as frames
 use Rattle.node_rules.specs.declared.refusal.LocalRefusal.{LocalRefusal}
 use Rattle.node_rules.specs.declared.refusal.LocalRefusal.TheVariants as locals
-use Rattle.node_rules.specs.Accepting.{accept}
+use Rattle.node_rules.specs.Acceptance.{accept}
 use Rattle.node_rules.specs.Ciphers.{Ciphers}
 use Rattle.node_rules.specs.Drafts.{choose}
 use Rattle.node_rules.specs.Frames.{Sent, arrived, spelled}
-use Rattle.node_rules.specs.Hearing.{Hearing, drop_it, hear, hear_sealed, hear_unit_in}
+use Rattle.node_rules.specs.HearingRules.{Hearing, drop_it, hear, hear_sealed, hear_unit_in}
 use Rattle.node_rules.specs.Memory.{StationMemory, Memory, Node, address_of}
 use Rattle.node_rules.specs.MemoryDrafts.{Unread, in_memory, unread}
 use Rattle.node_rules.specs.NodeSteps.{NodeStep, acts, of_station}
 use Rattle.node_rules.specs.Plans.{Plan, resting}
 use Rattle.node_rules.specs.Replies.{reply_among}
-use Rattle.node_rules.proofs.Halting.{does_nothing}
+use Rattle.node_rules.proofs.HaltedNodes.{does_nothing}
 use Rattle.node_rules.proofs.Refusals.{frames_refused}
 use Rattle.reach_rules.specs.declared.heard.CommandHeard.{CommandHeard}
 use Rattle.reach_rules.specs.declared.refusal.ReachDropped.{ReachDropped}
 use Rattle.reach_rules.specs.declared.refusal.ReachDropped.TheVariants as reach_drops
 use Rattle.reach_rules.specs.Beacons.{is_discovery}
 use Rattle.reach_rules.specs.CheckedReplies.{acknowledges, message_of}
-use Rattle.reach_rules.specs.Receiving.{NeighbourCommand, command_of, command_on, command_with, hear_command}
+use Rattle.reach_rules.specs.FurtherReceptions.{NeighbourCommand, command_of, command_on, command_with, hear_command}
 use Rattle.line_events.specs.declared.event.Answer.TheVariants as answers
 use Rattle.line_rules.specs.Answers.{Reception, command_word, frame_word}
 use Rattle.line_rules.specs.Forgery.{accepting}
@@ -46,13 +46,13 @@ use Rattle.line_rules.specs.Steps.{flight_by, flights_of, handed_by, hearing_out
 use Rattle.line_rules.specs.Worlds.{World, Flight, Trace, node_at}
 use Rattle.line_progress.specs.Held.{KeepsHeld}
 use Rattle.line_progress.specs.Stations.{station_at}
-use Rattle.line_progress.proofs.Acting.{Acted, Whole, Failed, acts_either}
+use Rattle.line_progress.proofs.WholePlans.{Acted, Whole, Failed, acts_either}
 use Rattle.line_progress.proofs.HeldEvents.{held_at, station_of}
 use Rattle.line_progress.proofs.HeldKept.{held_on, same_held}
 use Rattle.line_progress.proofs.NodeFates.{Makes, AsStation, Keeps, HasLeft, Halts, makes}
 use Rattle.line_progress.proofs.ReachFails.{commands_fail}
 use Rattle.line_progress.proofs.ReachKept.{IsMarked, accepts_marks, acks_keep, commands_keep}
-use Rattle.line_progress.proofs.Receiving.{AsPlanned, HasHalted, says}
+use Rattle.line_progress.proofs.StationReceipts.{AsPlanned, HasHalted, says}
 use Rattle.line_progress.proofs.SendEvents.{inside}
 
 -- # Nodes

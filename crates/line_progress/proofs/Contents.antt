@@ -10,11 +10,11 @@ use Rattle.mesh_header.specs.Pieces.{Placed, IsPiece}
 use Rattle.mesh_header.specs.Grammar.{IsMesh, IsUnit, spelling, spelled_length, header_length}
 use Rattle.mesh_header.proofs.Readings.{length_read}
 use Rattle.fragment_buffers.specs.Fragmentation.{piece_of}
-use Rattle.node_rules.specs.Hearing.{Hearing, forward, gather, hands_up, hear_sealed, hop_less}
+use Rattle.node_rules.specs.HearingRules.{Hearing, forward, gather, hands_up, hear_sealed, hop_less}
 use Rattle.node_rules.specs.Drafts.{choose}
 use Rattle.node_rules.specs.Memory.{StationMemory}
 use Rattle.node_rules.specs.Replies.{route_message}
-use Rattle.reach_rules.specs.Receiving.{command_with}
+use Rattle.reach_rules.specs.FurtherReceptions.{command_with}
 
 pub data Content : Type 0 where
   Entire : (octets : List ℕ) → Content

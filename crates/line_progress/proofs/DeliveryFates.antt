@@ -10,9 +10,9 @@ use Rattle.mesh_header.specs.declared.unit.Mesh.{Mesh}
 use Rattle.mesh_header.specs.declared.unit.Unit.{Unit as MeshUnit}
 use Rattle.mesh_header.specs.declared.unit.Unit.TheVariants as units
 use Rattle.mesh_header.specs.Pieces.{Placed}
-use Rattle.mesh_header.specs.Reading.{unit_in}
+use Rattle.mesh_header.specs.Reader.{unit_in}
 use Rattle.fragment_buffers.specs.Reassembly.{Reassembly}
-use Rattle.fragment_buffers.specs.Taking as pieces
+use Rattle.fragment_buffers.specs.PieceIntake as pieces
 use Rattle.node_rules.specs.Accepted.{Accepted}
 use Rattle.node_rules.specs.declared.heard.Path.TheVariants as paths
 use Rattle.node_rules.specs.declared.heard.Reply.{Reply}
@@ -21,14 +21,14 @@ use Rattle.node_rules.specs.declared.refusal.Dropped.TheVariants as drops
 use Rattle.node_rules.specs.Ciphers.{Ciphers}
 use Rattle.node_rules.specs.Drafts.{sealed_by, sealed_units, sealing_key}
 use Rattle.node_rules.specs.Frames.{SealedUnit, Sent, Sealed, spelled}
-use Rattle.node_rules.specs.Hearing.{Hearing, gathered, hear}
+use Rattle.node_rules.specs.HearingRules.{Hearing, gathered, hear}
 use Rattle.node_rules.specs.Memory.{StationMemory, Memory, Node}
 use Rattle.node_rules.specs.MemoryDrafts.{unread}
 use Rattle.node_rules.specs.NodeSteps.{NodeStep}
 use Rattle.node_rules.specs.Plans.{resting}
 use Rattle.node_rules.specs.Replies.{reply_among, route_message}
 use Rattle.reach_rules.specs.CheckedReplies.{is_unbelieved, message_of}
-use Rattle.reach_rules.specs.Receiving.{command_of, command_on, command_with}
+use Rattle.reach_rules.specs.FurtherReceptions.{command_of, command_on, command_with}
 use Rattle.line_events.specs.declared.event.Answer.{Answer}
 use Rattle.line_events.specs.declared.event.Answer.TheVariants as answers
 use Rattle.line_rules.specs.Answers.{Reception, only, drop_word}
@@ -41,7 +41,7 @@ use Rattle.line_progress.specs.UnitFates.{DeliveryFate, IsUp, IsCompleted, IsHel
 use Rattle.line_progress.specs.UnitFates.{UnitFate, HandedUp, TakenIn, WentOn, Ended}
 use Rattle.line_progress.specs.UnitFates.{Reported, DeliveriesHaveFates, is_unit_end, one_hop_less}
 use Rattle.line_progress.proofs.UnitFates.{unit_fates}
-use Rattle.line_progress.proofs.Receiving.{Receives, AsPlanned, HasHalted, says, receives}
+use Rattle.line_progress.proofs.StationReceipts.{Receives, AsPlanned, HasHalted, says, receives}
 
 -- # Fates
 

@@ -11,10 +11,10 @@ use Rattle.mesh_header.specs.declared.unit.Mesh.{Mesh}
 use Rattle.mesh_header.specs.declared.unit.Unit.{Unit as MeshUnit}
 use Rattle.mesh_header.specs.declared.unit.Unit.TheVariants as units
 use Rattle.mesh_header.specs.Pieces.{Placed}
-use Rattle.mesh_header.specs.Reading.{unit_in}
+use Rattle.mesh_header.specs.Reader.{unit_in}
 use Rattle.fragment_buffers.specs.Loads.{UnsealedUnit}
 use Rattle.fragment_buffers.specs.Reassembly.{PlacedPiece, Reassembly, begun, placed}
-use Rattle.fragment_buffers.specs.Taking as pieces
+use Rattle.fragment_buffers.specs.PieceIntake as pieces
 use Rattle.fragment_buffers.specs.declared.times.TheConstants.{REASSEMBLY_TIME, WAITING_TIME}
 use Rattle.node_rules.specs.Accepted.{Accepted}
 use Rattle.node_rules.specs.declared.heard.Path.{Path}
@@ -26,7 +26,7 @@ use Rattle.node_rules.specs.Calls.{tick}
 use Rattle.node_rules.specs.Ciphers.{Ciphers}
 use Rattle.node_rules.specs.Drafts.{choose, refused, sealing, sealing_key}
 use Rattle.node_rules.specs.Frames.{Sent, spelled}
-use Rattle.node_rules.specs.Hearing.{Hearing, drop_it, gather, gathered, hear, hear_plain, hear_sealed, hear_unit_in, is_joining}
+use Rattle.node_rules.specs.HearingRules.{Hearing, drop_it, gather, gathered, hear, hear_plain, hear_sealed, hear_unit_in, is_joining}
 use Rattle.node_rules.specs.Memory.{StationMemory, Memory, Node, Body}
 use Rattle.node_rules.specs.MemoryDrafts.{in_memory}
 use Rattle.node_rules.specs.Meters as meters
@@ -47,17 +47,17 @@ use Rattle.line_progress.specs.Held.{KeepsHeld, IsElsewhere, may_end_held}
 use Rattle.line_progress.specs.Lists.{Among, Here, Later}
 use Rattle.line_progress.specs.PieceFates.{PieceFate, StaysHeld, CameUp, Discarded}
 use Rattle.line_progress.specs.Stations.{station_at}
-use Rattle.line_progress.proofs.Acting.{Acted, Whole, Failed, acts_either}
+use Rattle.line_progress.proofs.WholePlans.{Acted, Whole, Failed, acts_either}
 use Rattle.line_progress.proofs.BodyFates.{body_fates}
 use Rattle.line_progress.proofs.ComesFates.{IsHeard, comes_so, left_there, station_in}
 use Rattle.line_progress.proofs.Events.{StepHas, Taken, outcome_has, once, at_node, at_meter, at_flight}
 use Rattle.line_progress.proofs.HaltsSaid.{halts_said}
-use Rattle.line_progress.proofs.Hearings.{Made, Quietly, HandsUp, Takes, Heards, Quiet, ByFrame, heard_so}
+use Rattle.line_progress.proofs.HeardDatagrams.{Made, Quietly, HandsUp, Takes, Heards, Quiet, ByFrame, heard_so}
 use Rattle.line_progress.proofs.HeldElsewhere.{events_leave}
 use Rattle.line_progress.proofs.HeldEvents.{events_keep, station_of}
 use Rattle.line_progress.proofs.HeldKept.{PlanKeeps, same_held, refuses_it}
 use Rattle.line_progress.proofs.PieceFates.{among_front, is_itself, piece_fates}
-use Rattle.line_progress.proofs.Receiving.{says}
+use Rattle.line_progress.proofs.StationReceipts.{says}
 use Rattle.line_progress.proofs.TickEvents.{tick_fates, time_comes}
 
 -- # A meter that leaves
@@ -181,7 +181,7 @@ module _ (ciphers : Ciphers) (w : World) (number : ℕ) (l : StationMemory) (the
     each (events.Counter node value) = mute _ refl
     each (events.Number node value) = mute _ refl
     each (events.Allow node) = mute _ refl
-    each (events.Rand node value) = mute _ refl
+    each (events.RandomOctets node value) = mute _ refl
     each (events.Join node agent) = mute _ refl
     each (events.Leave node) =
         by_place node (λ n. Is (events.Leave n)) (λ e. outcome_has _ (leave ciphers w number) (v, d) leave_here e) (elsewhere (events.Leave node))

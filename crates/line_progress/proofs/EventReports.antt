@@ -9,12 +9,12 @@ use Rattle.node_rules.specs.declared.refusal.LocalRefusal.{LocalRefusal}
 use Rattle.node_rules.specs.declared.refusal.SendRefusal.TheVariants as refusals
 use Rattle.node_rules.specs.Calls as calls
 use Rattle.node_rules.specs.Ciphers.{Ciphers}
-use Rattle.node_rules.specs.Hearing.{hear}
+use Rattle.node_rules.specs.HearingRules.{hear}
 use Rattle.node_rules.specs.Memory.{Memory, Node, node_address}
 use Rattle.node_rules.specs.NodeSteps.{NodeStep, acts, answering, left_by, of_station, stays}
 use Rattle.node_rules.specs.Plans.{carry_out}
 use Rattle.reach_rules.specs.Beacons.{is_discovery}
-use Rattle.reach_rules.specs.Receiving.{NeighbourCommand, command_of}
+use Rattle.reach_rules.specs.FurtherReceptions.{NeighbourCommand, command_of}
 use Rattle.line_events.specs.declared.event.Answer.{Answer}
 use Rattle.line_events.specs.declared.event.Event.{Event}
 use Rattle.line_events.specs.declared.event.Event.TheVariants as events
@@ -192,7 +192,7 @@ module _ (ciphers : Ciphers) (w : World) (P : Event → World × Trace → Type 
   each_event (events.Counter node value) = is_mute _ _ (preset_mute ciphers w node _)
   each_event (events.Number node value) = is_mute _ _ (preset_mute ciphers w node _)
   each_event (events.Allow node) = is_mute _ _ (allow_mute ciphers w node)
-  each_event (events.Rand node value) = is_mute _ _ (rand_mute ciphers w node value)
+  each_event (events.RandomOctets node value) = is_mute _ _ (rand_mute ciphers w node value)
   each_event (events.Join node agent) = is_mute _ _ (join_mute ciphers w node agent)
   each_event (events.Leave node) = is_mute _ _ (leave_mute ciphers w node)
   each_event (events.Send from to datagram) = sends from to datagram

@@ -13,7 +13,7 @@ use Rattle.mesh_header.specs.declared.unit.Unit.{Unit as MeshUnit}
 use Rattle.loadng_messages.specs.declared.message.Message.{Message}
 use Rattle.loadng_messages.specs.declared.message.Message.TheVariants.{Rrep}
 use Rattle.loadng_messages.specs.Grammar as messages
-use Rattle.loadng_messages.specs.Reading.{message_in}
+use Rattle.loadng_messages.specs.Reader.{message_in}
 use Rattle.loadng_messages.proofs.Readings.{message_read}
 use Rattle.routing_set.specs.declared.rank.Rank.{Rank}
 use Rattle.routing_set.specs.RoutingSet.{offered}
@@ -22,7 +22,7 @@ use Rattle.node_rules.specs.declared.heard.Heard.TheVariants as heard
 use Rattle.node_rules.specs.Ciphers.{Ciphers, OpensWhatItSeals}
 use Rattle.node_rules.specs.Drafts.{UnsealedUnit, all_go, counters_left, sealed_units, units_of, waits_for}
 use Rattle.node_rules.specs.Frames.{Sealed}
-use Rattle.node_rules.specs.Hearing.{rank_over}
+use Rattle.node_rules.specs.HearingRules.{rank_over}
 use Rattle.node_rules.specs.Memory.{Body, Datagram, Node, StationMemory}
 use Rattle.node_rules.specs.MemoryDrafts.{with_station}
 use Rattle.line_events.specs.declared.event.Answer.{Answer}
@@ -39,8 +39,8 @@ use Rattle.line_progress.specs.Arrival.{all_deliveries, delivery_answers, all_an
 use Rattle.line_progress.specs.Discovery.{TakesRequest, AreReached, Search, AreBack, MayReach}
 use Rattle.line_progress.specs.Discovery.{MayFind, DiscoveriesArrive, asked_of, back_answers, back_deliveries}
 use Rattle.line_progress.specs.Discovery.{cost_back, counter_back, search_of}
-use Rattle.line_progress.proofs.Arriving.{InFrames, start_so, flies_at, flight_for, flights_for, count_of, in_frames}
-use Rattle.line_progress.proofs.Delivering.{Goes}
+use Rattle.line_progress.proofs.RouteArrivals.{InFrames, start_so, flies_at, flight_for, flights_for, count_of, in_frames}
+use Rattle.line_progress.proofs.Deliveries.{Goes}
 use Rattle.line_progress.proofs.Messages.{Holds, IsComing, came, is_target, message_goes, step_is, still, to_me, to_one, unit_is}
 use Rattle.line_progress.proofs.NextCounter.{IsMarked, is_marked, room_above, stays_marked}
 use Rattle.line_progress.proofs.OfferedRoutes.{next_by}
@@ -51,7 +51,7 @@ use Rattle.line_progress.proofs.RequestRoutes.{Reached, goes_out, out, request_b
 use Rattle.line_progress.proofs.Requests.{IsTakeable, none_kept}
 use Rattle.line_progress.proofs.Routes.{AreFit, Says, all_there, fit_of, get_after, last_ready, place_within, runs_on, says_first}
 use Rattle.line_progress.proofs.Seeking.{seeking_of}
-use Rattle.line_progress.proofs.Sending.{Leaves}
+use Rattle.line_progress.proofs.SentDatagrams.{Leaves}
 
 -- # The nodes of a way when the reply has gone back
 

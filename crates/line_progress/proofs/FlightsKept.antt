@@ -7,7 +7,7 @@ use Rattle.std.proofs.lemmas.Bool.{eqb-true, eqb-false}
 use Rattle.std.proofs.lemmas.List.{append_assoc, append-nil}
 use Rattle.plc_base.specs.declared.address.Eui.{Eui}
 use Rattle.plc_base.specs.declared.key.Key.{Key}
-use Rattle.plc_base.specs.declared.key.Rand.{Rand}
+use Rattle.plc_base.specs.declared.key.RandomOctets.{RandomOctets}
 use Rattle.plc_base.specs.declared.keeper.BadStore.{BadStore}
 use Rattle.plc_base.specs.Grant.{Granted}
 use Rattle.store_tables.proofs.SlotTables.{slice_get-set, slice_get-set_other}
@@ -24,7 +24,7 @@ use Rattle.node_rules.specs.Memory.{StationMemory, Memory, Node, node_address}
 use Rattle.node_rules.specs.NodeSteps.{NodeStep, acts}
 use Rattle.reach_rules.specs.Beacons.{is_discovery}
 use Rattle.reach_rules.specs.ReachingNodes.{Beside, restarted, tick_beside}
-use Rattle.reach_rules.specs.Receiving.{NeighbourCommand, command_of}
+use Rattle.reach_rules.specs.FurtherReceptions.{NeighbourCommand, command_of}
 use Rattle.line_events.specs.declared.event.Answer.TheVariants as answers
 use Rattle.line_events.specs.declared.event.Event.{Event}
 use Rattle.line_events.specs.declared.event.Event.TheVariants as events
@@ -182,7 +182,7 @@ module _ (ciphers : Ciphers) (w : World) where
       by_option AddsIn (λ psk. Ok (allowed ciphers w number (acts c (Err orders.Halted) (λ m. coordinator_rules.allow m x.eui psk)))) (psk_of x) _
       (λ psk g. Taken _ (once_more 0 _)) (Fails faults.Node))))
 
-  rand_adds : (number : ℕ) (value : Rand) → Added (rand ciphers w number value)
+  rand_adds : (number : ℕ) (value : RandomOctets) → Added (rand ciphers w number value)
   unfolding rand
   rand_adds number value = once AddsIn w _ (at_node AddsIn w number _ (λ x e. Taken _ (once_more number _)))
 
@@ -372,7 +372,7 @@ module _ (ciphers : Ciphers) (w : World) (number : ℕ) (f : Flight) (there : fl
   each (events.Counter node value) = adds _ _ (preset_adds ciphers w node _)
   each (events.Number node value) = adds _ _ (preset_adds ciphers w node _)
   each (events.Allow node) = adds _ _ (allow_adds ciphers w node)
-  each (events.Rand node value) = adds _ _ (rand_adds ciphers w node value)
+  each (events.RandomOctets node value) = adds _ _ (rand_adds ciphers w node value)
   each (events.Join node agent) = adds _ _ (join_adds ciphers w node agent)
   each (events.Leave node) = adds _ _ (leave_adds ciphers w node)
   each (events.Send from to datagram) = adds _ _ (send_adds ciphers w from to datagram)

@@ -32,7 +32,7 @@ use Rattle.line_rules.specs.Steps.{rekey, send, sends_by, sent_if, show, tag_of,
 use Rattle.line_rules.specs.Worlds.{World, Trace, node_at}
 use Rattle.line_progress.specs.EventFates.{hides_a_loss}
 use Rattle.line_progress.specs.Held.{may_end_held}
-use Rattle.line_progress.proofs.Acting.{Acted, Whole, Failed, acts_either}
+use Rattle.line_progress.proofs.WholePlans.{Acted, Whole, Failed, acts_either}
 use Rattle.line_progress.proofs.ComesFates.{left_there, station_in}
 use Rattle.line_progress.proofs.Events.{StepHas, Taken, Fails, outcome_has, by_option, once, at_node, at_meter, at_flight}
 use Rattle.line_progress.proofs.HeldEvents.{held_at, station_of}
@@ -227,7 +227,7 @@ module _ (ciphers : Ciphers) (w : World) where
   each_said (events.Counter node value) e h = absurd (cc)
   each_said (events.Number node value) e h = absurd (cc)
   each_said (events.Allow node) e h = allow_said node
-  each_said (events.Rand node value) e h = absurd (cc)
+  each_said (events.RandomOctets node value) e h = absurd (cc)
   each_said (events.Join node agent) e h = absurd (cc)
   each_said (events.Leave node) e h = absurd (cc)
   each_said (events.Send from to datagram) e h = send_said from to datagram

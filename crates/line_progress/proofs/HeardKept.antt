@@ -3,7 +3,7 @@
 use Rattle.std.proofs.Common.{◌≡◌, ℕ, Bool, true, false, List, [], ◌∷◌, length, Option, Some, None, Ok, refl}
 use Rattle.std.specs.Prelude.{if◌then◌else◌, nat_lt}
 use Rattle.plc_base.specs.declared.address.Eui.{Eui}
-use Rattle.plc_base.specs.declared.key.Rand.{Rand}
+use Rattle.plc_base.specs.declared.key.RandomOctets.{RandomOctets}
 use Rattle.plc_base.specs.declared.tags.PairTag.{PairTag}
 use Rattle.plc_base.specs.Grant.{Granted}
 use Rattle.group_keys.specs.KeyRing as ring
@@ -21,7 +21,7 @@ use Rattle.node_rules.specs.declared.heard.Way.TheVariants.{Air, Near, Mesh}
 use Rattle.node_rules.specs.declared.refusal.Dropped.{Dropped}
 use Rattle.node_rules.specs.Coordinators as coordinator_rules
 use Rattle.node_rules.specs.Drafts.{Draft, checked, choose, counters_left, empty_draft, refused, sealing, sealed, with_ring}
-use Rattle.node_rules.specs.Hearing.{dropped}
+use Rattle.node_rules.specs.HearingRules.{dropped}
 use Rattle.node_rules.specs.Memory.{Memory, MeterSession, SessionWay, ByAgent, ByCommand, CoordinatorSession, address_of}
 use Rattle.node_rules.specs.MemoryDrafts.{goes_down, in_memory, oldest, on_station, with_pair_tags}
 use Rattle.node_rules.specs.Meters as meters
@@ -95,7 +95,7 @@ module _ (x : meters.Identity) (m : Memory) (now : ℕ) where
   carry_down join body.Kick = drops_it _
   carry_down join (body.Activate index) = drops_it _
 
-  replies_with : (way : SessionWay) (packet : List ℕ) (value : Rand) → Keeping (meters.reply_with x m way packet now value)
+  replies_with : (way : SessionWay) (packet : List ℕ) (value : RandomOctets) → Keeping (meters.reply_with x m way packet now value)
   replies_with way packet value =
       by_check _ _ (ends_by _ heard.Replied (said way _ _ _ (tagged m _ _ _ (beside_so m _ _ (λ n. refl) (begun_memory m)))))
 
@@ -207,7 +207,8 @@ module _ (own : coordinator_rules.CoordinatorIdentity) (m : Memory) (now : ℕ) 
       (λ granted. if_so _ _ (done_by _ (coordinator_heard.Keyed _ _)
       (says_so s.way _ _ (tagged m _ _ _ (booked m _ _ (beside_so m _ _ (λ n. refl) (begun_memory m))))))) (refuses_so _))
 
-  fourth : (s : CoordinatorSession) (e : BookEntry) (packet : List ℕ) (rand_p : Rand) → Keeps (coordinator_rules.take_fourth own m s e packet rand_p now)
+  fourth : (s : CoordinatorSession) (e : BookEntry) (packet : List ℕ) (rand_p : RandomOctets)
+      → Keeps (coordinator_rules.take_fourth own m s e packet rand_p now)
   fourth s e packet rand_p =
       if_so _ _ (if_so _ _ (done_by _ (coordinator_heard.Done _ _)
       (says_so s.way _ _ (tagged m _ _ _ (beside_so m _ _ (λ n. refl) (begun_memory m))))))

@@ -13,7 +13,7 @@ use Rattle.node_rules.specs.Memory.{Memory, Node}
 use Rattle.node_rules.specs.NodeSteps.{NodeStep}
 use Rattle.reach_rules.specs.ReachingNodes.{Beside, restarted}
 use Rattle.reach_rules.specs.Beacons.{is_discovery}
-use Rattle.reach_rules.specs.Receiving.{NeighbourCommand, command_of}
+use Rattle.reach_rules.specs.FurtherReceptions.{NeighbourCommand, command_of}
 use Rattle.line_events.specs.declared.event.Event.TheVariants as events
 use Rattle.line_rules.specs.Forgery.{accepting}
 use Rattle.line_rules.specs.Further.{accepted_further, acknowledged, acknowledged_if, comes}
@@ -123,7 +123,7 @@ events_leave ciphers w v (events.Near a b cost) d e number other = absurd other
 events_leave ciphers w v (events.Counter node value) d e number other = absurd other
 events_leave ciphers w v (events.Number node value) d e number other = absurd other
 events_leave ciphers w v (events.Allow node) d e number other = absurd other
-events_leave ciphers w v (events.Rand node value) d e number other = absurd other
+events_leave ciphers w v (events.RandomOctets node value) d e number other = absurd other
 events_leave ciphers w v (events.Join node agent) d e number other = absurd other
 events_leave ciphers w v (events.Send from to datagram) d e number other = absurd other
 events_leave ciphers w v (events.Lose flight) d e number other = absurd other

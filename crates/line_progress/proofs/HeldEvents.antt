@@ -7,7 +7,7 @@ use Rattle.std.proofs.lemmas.Bool.{eqb-true, eqb-false}
 use Rattle.std.proofs.lemmas.Option.{same_Some}
 use Rattle.plc_base.specs.declared.address.Eui.{Eui}
 use Rattle.plc_base.specs.declared.key.Key.{Key}
-use Rattle.plc_base.specs.declared.key.Rand.{Rand}
+use Rattle.plc_base.specs.declared.key.RandomOctets.{RandomOctets}
 use Rattle.plc_base.specs.Grant.{Granted}
 use Rattle.store_tables.proofs.SlotTables.{slice_get-set_other}
 use Rattle.node_rules.specs.declared.refusal.CoordinatorRefusal.{CoordinatorRefusal}
@@ -32,7 +32,7 @@ use Rattle.line_rules.specs.Steps.{near, near_by, node_outcome, preset, provisio
 use Rattle.line_rules.specs.Steps.{running_world, send, sends_by, sent_if, set_up, show, tag_of, takes_setup, world_after}
 use Rattle.line_rules.specs.Worlds.{World, Trace, node_at}
 use Rattle.line_progress.specs.Held.{KeepsHeld, EventsKeepHeld, may_end_held}
-use Rattle.line_progress.proofs.Acting.{Acted, Whole, Failed, acts_either}
+use Rattle.line_progress.proofs.WholePlans.{Acted, Whole, Failed, acts_either}
 use Rattle.line_progress.proofs.Events.{StepHas, Fails, Taken, outcome_has, branch, by_option, once, setup, at_node, at_meter, at_flight}
 use Rattle.line_progress.proofs.HeldKept.{PlanKeeps, same_held, send_keeps, counter_keeps, number_keeps, near_keeps, install_keeps, random_keeps, join_keeps}
 use Rattle.line_progress.proofs.HeldKept.{allow_keeps, depot_keeps, rekey_keeps, activate_self_keeps, challenge_keeps, activate_keeps, kick_keeps}
@@ -176,7 +176,7 @@ module _ (ciphers : Ciphers) (w : World) where
       by_option Keeps (λ psk. Ok (allowed ciphers w number (acts c (Err orders.Halted) (λ m. coordinator_rules.allow m x.eui psk)))) (psk_of x) _
       (λ psk g. Taken _ (after_keeps (running_world w) 0 c _ as_before f (acts_keep c _ _ (λ m. (allow_keeps m x.eui psk).held)))) (Fails faults.Node))))
 
-  rand_kept : (number : ℕ) (value : Rand) → Kept (rand ciphers w number value)
+  rand_kept : (number : ℕ) (value : RandomOctets) → Kept (rand ciphers w number value)
   unfolding rand
   rand_kept number value =
       once Keeps w _ (at_node Keeps w number _ (λ x e. Taken _ (after_keeps (running_world w) number x _ as_before e (acts_keep x _ _ (λ m.
@@ -308,7 +308,7 @@ module _ (ciphers : Ciphers) (w : World) where
   each_kept (events.Counter node value) e = preset_kept node _ (λ l. counter_keeps l value)
   each_kept (events.Number node value) e = preset_kept node _ (λ l. number_keeps l value)
   each_kept (events.Allow node) e = allow_kept node
-  each_kept (events.Rand node value) e = rand_kept node value
+  each_kept (events.RandomOctets node value) e = rand_kept node value
   each_kept (events.Join node agent) e = join_kept node agent
   each_kept (events.Leave node) e = absurd (cc)
   each_kept (events.Send from to datagram) e = send_kept from to datagram

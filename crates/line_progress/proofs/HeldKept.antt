@@ -5,7 +5,7 @@ use Rattle.std.specs.Option.{option_map_or}
 use Rattle.std.proofs.lemmas.List.{append_assoc, append-nil}
 use Rattle.plc_base.specs.declared.address.Eui.{Eui}
 use Rattle.plc_base.specs.declared.key.Key.{Key}
-use Rattle.plc_base.specs.declared.key.Rand.{Rand}
+use Rattle.plc_base.specs.declared.key.RandomOctets.{RandomOctets}
 use Rattle.plc_base.specs.Grant.{Granted}
 use Rattle.frame_counters.specs.SendCounter as counter
 use Rattle.group_keys.specs.KeyBook as book
@@ -17,7 +17,7 @@ use Rattle.node_rules.specs.Coordinators as coordinator_rules
 use Rattle.node_rules.specs.Coordinators.{orders}
 use Rattle.node_rules.specs.Drafts.{Draft, Ends, StationPlace, alone, body_goes, checked, choose, counters_left, empty_draft, goes, is_awaited, refused, sealed}
 use Rattle.node_rules.specs.Drafts.{sealing, seeks, seeks_once, sets_out, waits, with_next_tag, with_own_number, with_rank, with_ring}
-use Rattle.node_rules.specs.Joining.{command_of, server_for}
+use Rattle.node_rules.specs.JoiningPackets.{command_of, server_for}
 use Rattle.node_rules.specs.Memory.{StationMemory, Memory, Load, Body, Datagram, Command, address_of, next_hop}
 use Rattle.node_rules.specs.MemoryDrafts.{give_random, given_ends, goes_up, in_memory, is_commanded}
 use Rattle.node_rules.specs.MemoryDrafts.{oldest, on_station, station_part, with_memory_by, with_station}
@@ -28,7 +28,7 @@ use Rattle.line_events.specs.declared.event.Answer.{Answer}
 use Rattle.reach_rules.specs.ReachingNodes.{Reaching, adds_local, in_reach}
 use Rattle.reach_rules.specs.Broadcasts.{broadcast, broadcast_ends, with_broadcast_number}
 use Rattle.reach_rules.specs.Beacons as beacons
-use Rattle.reach_rules.specs.PathAsking as asking
+use Rattle.reach_rules.specs.PathRequests as asking
 use Rattle.line_progress.specs.Held.{KeepsHeld}
 use Rattle.line_progress.proofs.SendFates.{sets_some, sets_none, seeks_keeps}
 
@@ -215,7 +215,7 @@ module _ (m : Memory) where
   unfolding goes_up
   asked_up agent own message d k = record { held = k.held }
 
-  pub random_keeps : (value : Rand) → PlanKeeps in_memory m (give_random m value)
+  pub random_keeps : (value : RandomOctets) → PlanKeeps in_memory m (give_random m value)
   random_keeps value = by_choice in_memory m _ _ _ (refuses_it given_ends _) (seals_so given_ends _ _ (changes_beside _ refl))
 
   pub join_keeps : (x : meters.Identity) (agent now : ℕ) → PlanKeeps in_memory m (meters.join x m agent now)

@@ -10,30 +10,30 @@ use Rattle.frame_counters.specs.PeerMarks.{kept_after, room_for}
 use Rattle.store_tables.proofs.SlotTables.{slice_get-push, slice_get-set}
 use Rattle.mac_frames.specs.Grammar.{IsTarget}
 use Rattle.mesh_header.specs.declared.unit.Unit.TheVariants as units
-use Rattle.mesh_header.specs.Reading.{unit_in}
+use Rattle.mesh_header.specs.Reader.{unit_in}
 use Rattle.loadng_messages.specs.declared.message.Message.{Message}
 use Rattle.loadng_messages.specs.declared.message.Message.TheVariants.{Rreq, Rrep, Rerr}
 use Rattle.loadng_messages.specs.Grammar as messages
 use Rattle.node_rules.specs.declared.heard.Heard.{Heard}
-use Rattle.node_rules.specs.Accepting.{accept, is_own, marking}
+use Rattle.node_rules.specs.Acceptance.{accept, is_own, marking}
 use Rattle.node_rules.specs.Ciphers.{Ciphers, OpensWhatItSeals}
 use Rattle.node_rules.specs.Drafts.{counters_left}
 use Rattle.node_rules.specs.Frames.{SealedUnit, Sent, Sealed, arrived, spelled, to_all}
-use Rattle.node_rules.specs.Hearing.{hear}
+use Rattle.node_rules.specs.HearingRules.{hear}
 use Rattle.node_rules.specs.Memory.{StationMemory, Memory, Node}
 use Rattle.node_rules.specs.MemoryDrafts.{unread, with_station}
 use Rattle.reach_rules.specs.CheckedReplies.{is_unbelieved, message_of}
-use Rattle.reach_rules.specs.Receiving.{command_of, command_with}
+use Rattle.reach_rules.specs.FurtherReceptions.{command_of, command_with}
 use Rattle.line_events.specs.declared.event.Event.TheVariants as events
 use Rattle.line_rules.specs.Answers.{station_reception}
 use Rattle.line_rules.specs.Further.{beside_at, comes, is_dropped, line_step}
 use Rattle.line_rules.specs.Steps.{flight_by}
 use Rattle.line_rules.specs.Worlds.{World, Flight, Trace, node_at}
 use Rattle.line_progress.specs.Arrival.{Stop, IsReady}
-use Rattle.line_progress.proofs.Sealing.{IsSealable, unit_whole}
-use Rattle.line_progress.proofs.Accepting.{accepts_by, got_by, own_is}
-use Rattle.line_progress.proofs.Delivering.{Goes, delivered, note_so, unchecked_comes}
-use Rattle.line_progress.proofs.Hearing.{Hears}
+use Rattle.line_progress.proofs.SealedUnits.{IsSealable, unit_whole}
+use Rattle.line_progress.proofs.Acceptance.{accepts_by, got_by, own_is}
+use Rattle.line_progress.proofs.Deliveries.{Goes, delivered, note_so, unchecked_comes}
+use Rattle.line_progress.proofs.HeardUnits.{Hears}
 use Rattle.line_progress.proofs.Routes.{at_place, no_target, place_within}
 
 -- # Messages in their ranges

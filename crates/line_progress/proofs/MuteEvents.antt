@@ -3,7 +3,7 @@ use Rattle.std.proofs.Common.{◌≡◌, ℕ, ◌==◌, Bool, true, false, not, 
 use Rattle.std.specs.Prelude.{if◌then◌else◌, is_some, nat_lt, ◌||◌}
 use Rattle.plc_base.specs.declared.address.Eui.{Eui}
 use Rattle.plc_base.specs.declared.key.Key.{Key}
-use Rattle.plc_base.specs.declared.key.Rand.{Rand}
+use Rattle.plc_base.specs.declared.key.RandomOctets.{RandomOctets}
 use Rattle.plc_base.specs.declared.keeper.BadStore.{BadStore}
 use Rattle.plc_base.specs.Grant.{Granted}
 use Rattle.node_rules.specs.declared.refusal.CoordinatorRefusal.{CoordinatorRefusal}
@@ -88,7 +88,7 @@ module _ (ciphers : Ciphers) (w : World) where
       by_option IsMute (λ psk. Ok (allowed ciphers w number (acts c (Err orders.Halted) (λ m. coordinator_rules.allow m x.eui psk)))) (psk_of x) _
       (λ psk g. Taken _ (refl, refl)) (Fails faults.Node))))
 
-  pub rand_mute : (number : ℕ) (value : Rand) → Mute (rand ciphers w number value)
+  pub rand_mute : (number : ℕ) (value : RandomOctets) → Mute (rand ciphers w number value)
   unfolding rand
   rand_mute number value = once IsMute w _ (at_node IsMute w number _ (λ x e. Taken _ (refl, refl)))
 

@@ -8,16 +8,16 @@ use Rattle.std.proofs.lemmas.List.{get_or-set_same, get_or-set_other, get_or_app
 use Rattle.std.proofs.lemmas.List.Sums.{position_or_len_is}
 use Rattle.store_tables.proofs.SlotTables.{found, apart, place_of-push, place_of-set}
 use Rattle.frame_counters.specs.declared.fault.PeerFault.TheVariants.{Replayed, PeersFull}
-use Rattle.frame_counters.specs.PeerMarks.{Peer, Table, peers, place_of, peer_at, peer_ahead, advanced, room_for, kept_after}
+use Rattle.frame_counters.specs.PeerMarks.{PeerMark, Table, peers, place_of, peer_at, peer_ahead, advanced, room_for, kept_after}
 
-advanced_address : (p : Peer) (from counter : ℕ) → p.address ≡ from → (advanced p from counter).address ≡ from
+advanced_address : (p : PeerMark) (from counter : ℕ) → p.address ≡ from → (advanced p from counter).address ≡ from
 advanced_address p from counter same = by_stored (nat_le counter p.stored)
   where
     by_stored : (b : Bool) → (if b then record p { mark = counter } else peer_ahead from counter).address ≡ from
     by_stored true = same
     by_stored false = refl
 
-advanced_mark : (p : Peer) (from counter : ℕ) → (advanced p from counter).mark ≡ counter
+advanced_mark : (p : PeerMark) (from counter : ℕ) → (advanced p from counter).mark ≡ counter
 advanced_mark p from counter = by_stored (nat_le counter p.stored)
   where
     by_stored : (b : Bool) → (if b then record p { mark = counter } else peer_ahead from counter).mark ≡ counter
@@ -42,12 +42,12 @@ room_above table from counter next later is =
     ∙ (λ i. if above i then Err Replayed else Ok tt)
 
 module _ (table : Table) (from counter : ℕ) where
-  abbrev none : Peer
+  abbrev none : PeerMark
   none = record { address = 0; mark = 0; stored = 0 }
 
   of_held : (place : ℕ) → place_of table from ≡ Some place → IsMarked (kept_after table from counter) from counter
   of_held place at =
-      let p : Peer = advanced (peer_at table place) from counter in
+      let p : PeerMark = advanced (peer_at table place) from counter in
       let there = found peers table from place none at in
       let key : p.address ≡ from = advanced_address (peer_at table place) from counter there.1 in
       let here : get_or (set table place p) place none ≡ p = get_or-set_same table place p none there.0 in
@@ -56,25 +56,25 @@ module _ (table : Table) (from counter : ℕ) where
       subst (λ t. IsMarked t from counter) (sym after) (record {
         place = place;
         at = place_of-set peers table p place from place (ap (place_of table) key ∙ at) at;
-        mark = ap (λ (q : Peer). q.mark) here ∙ advanced_mark (peer_at table place) from counter;
+        mark = ap (λ (q : PeerMark). q.mark) here ∙ advanced_mark (peer_at table place) from counter;
       })
 
   of_new : place_of table from ≡ None → IsMarked (kept_after table from counter) from counter
   of_new at =
-      let p : Peer = peer_ahead from counter in
+      let p : PeerMark = peer_ahead from counter in
       let more : Table = table ++ p ∷ [] in
       let longer : length more ≡ length table + 1 = length-append table (p ∷ []) in
       let here : get_or more (length table) none ≡ p = get_or_push table p none (length table) refl in
-      let first = position_or_len_is (λ (entry : Peer). entry.address == from) more (length table) none (omega (arith, longer))
-      (λ k h. ap (λ (entry : Peer). entry.address == from) (get_or_append_left table (p ∷ []) none k h)
+      let first = position_or_len_is (λ (entry : PeerMark). entry.address == from) more (length table) none (omega (arith, longer))
+      (λ k h. ap (λ (entry : PeerMark). entry.address == from) (get_or_append_left table (p ∷ []) none k h)
       ∙ ne_eqb _ _ (apart peers table from (ap is_some at) k none h))
-      (λ h. ap (λ (entry : Peer). entry.address == from) here ∙ eq-eqb from from refl) in
+      (λ h. ap (λ (entry : PeerMark). entry.address == from) here ∙ eq-eqb from from refl) in
       let inside : nat_lt (length table) (length more) ≡ true = lt-ltb (length table) (length more) (omega (arith, longer)) in
       let place : place_of more from ≡ Some (length table) = rw (first, inside) refl in
       let after : kept_after table from counter ≡ more =
       λ i. option_map_or (λ q. set table q (advanced (peer_at table q) from counter)) (at i) more in
       subst (λ t. IsMarked t from counter) (sym after)
-      (record { place = length table; at = place; mark = ap (λ (q : Peer). q.mark) here })
+      (record { place = length table; at = place; mark = ap (λ (q : PeerMark). q.mark) here })
 
   -- a counter that is kept is the mark of its sender
   pub is_marked : IsMarked (kept_after table from counter) from counter
@@ -89,7 +89,7 @@ module _ (table : Table) (from counter : ℕ) where
 
 -- and stays it where one of another sender is kept
 module _ (table : Table) (from counter other next : ℕ) (apart_from : other ≢ from) (is : IsMarked table from counter) where
-  abbrev blank : Peer
+  abbrev blank : PeerMark
   blank = record { address = 0; mark = 0; stored = 0 }
 
   pub stays_marked : IsMarked (kept_after table other next) from counter
@@ -97,7 +97,7 @@ module _ (table : Table) (from counter other next : ℕ) (apart_from : other ≢
     where
       by_place : (o : Option ℕ) → place_of table other ≡ o → IsMarked (kept_after table other next) from counter
       by_place None at =
-          let p : Peer = peer_ahead other next in
+          let p : PeerMark = peer_ahead other next in
           let after : kept_after table other next ≡ table ++ p ∷ [] =
           λ i. option_map_or (λ q. set table q (advanced (peer_at table q) other next)) (at i) (table ++ p ∷ []) in
           let held = is.at in
@@ -106,10 +106,10 @@ module _ (table : Table) (from counter other next : ℕ) (apart_from : other ≢
           subst (λ t. IsMarked t from counter) (sym after) (record {
             place = is.place;
             at = place_of-push peers table p from is.place held;
-            mark = ap (λ (q : Peer). q.mark) (get_or_append_left table (p ∷ []) blank is.place there.0) ∙ mark;
+            mark = ap (λ (q : PeerMark). q.mark) (get_or_append_left table (p ∷ []) blank is.place there.0) ∙ mark;
           })
       by_place (Some place) at =
-          let p : Peer = advanced (peer_at table place) other next in
+          let p : PeerMark = advanced (peer_at table place) other next in
           let after : kept_after table other next ≡ set table place p =
           λ i. option_map_or (λ q. set table q (advanced (peer_at table q) other next)) (at i) (table ++ peer_ahead other next ∷ []) in
           let held = is.at in
@@ -121,5 +121,5 @@ module _ (table : Table) (from counter other next : ℕ) (apart_from : other ≢
           subst (λ t. IsMarked t from counter) (sym after) (record {
             place = is.place;
             at = place_of-set peers table p place from is.place (ap (place_of table) key ∙ at) held;
-            mark = ap (λ (q : Peer). q.mark) (get_or-set_other table place is.place p blank away) ∙ mark;
+            mark = ap (λ (q : PeerMark). q.mark) (get_or-set_other table place is.place p blank away) ∙ mark;
           })

@@ -2,7 +2,7 @@
 use Rattle.std.proofs.Common.{◌≡◌, ℕ, Option, Some, None, Result, Err, refl, sym, ap, subst, ◌∙◌}
 use Rattle.std.specs.Option.{option_map}
 use Rattle.plc_base.specs.declared.key.Key.{Key}
-use Rattle.joining_messages.specs.Reading.{join_in}
+use Rattle.joining_messages.specs.Reader.{join_in}
 use Rattle.node_rules.specs.Accepted.{Accepted}
 use Rattle.node_rules.specs.declared.heard.MeterHeard.{MeterHeard}
 use Rattle.node_rules.specs.declared.heard.CoordinatorHeard.{CoordinatorHeard}
@@ -10,7 +10,7 @@ use Rattle.node_rules.specs.declared.refusal.Dropped.{Dropped}
 use Rattle.node_rules.specs.declared.refusal.Dropped.TheVariants as drops
 use Rattle.node_rules.specs.Ciphers.{Ciphers}
 use Rattle.node_rules.specs.Coordinators as coordinator_rules
-use Rattle.node_rules.specs.Hearing.{Hearing, hear}
+use Rattle.node_rules.specs.HearingRules.{Hearing, hear}
 use Rattle.node_rules.specs.Memory.{StationMemory, Memory, Node, Role, Coordinator, Meter}
 use Rattle.node_rules.specs.MemoryDrafts.{Unread, in_memory, unread}
 use Rattle.node_rules.specs.Meters as meters
@@ -20,11 +20,11 @@ use Rattle.line_events.specs.declared.event.Answer.TheVariants as answers
 use Rattle.line_rules.specs.Answers.{Reception, meter_reception, coordinator_reception}
 use Rattle.line_rules.specs.Steps.{hearing_step, identity}
 use Rattle.line_progress.specs.Held.{KeepsHeld}
-use Rattle.line_progress.proofs.Acting.{Acted, Whole, Failed, acts_either}
+use Rattle.line_progress.proofs.WholePlans.{Acted, Whole, Failed, acts_either}
 use Rattle.line_progress.proofs.HeardKept.{KeepsOrLeaves, KeepsAll, Leaves, meters_keep, coordinators_keep}
 use Rattle.line_progress.proofs.HeldEvents.{station_of}
 use Rattle.line_progress.proofs.HeldKept.{PlanKeeps}
-use Rattle.line_progress.proofs.Receiving.{Receives, receives}
+use Rattle.line_progress.proofs.StationReceipts.{Receives, receives}
 
 -- A frame without a joining command is received as the station plans; at a joining message the node keeps all that it holds, or leaves; or a
 -- write failed.

@@ -1,7 +1,7 @@
 -- What a node hands up of a frame is what its station hands up.
 use Rattle.std.proofs.Common.{◌≡◌, ℕ, List, Option, Some, None, Result, Ok, Err, refl, sym, ap, subst, ◌∙◌}
 use Rattle.std.specs.Option.{option_map_or}
-use Rattle.joining_messages.specs.Reading.{join_in}
+use Rattle.joining_messages.specs.Reader.{join_in}
 use Rattle.plc_base.specs.declared.key.Key.{Key}
 use Rattle.node_rules.specs.Accepted.{Accepted}
 use Rattle.node_rules.specs.declared.heard.Heard.{Heard}
@@ -10,7 +10,7 @@ use Rattle.node_rules.specs.declared.refusal.Dropped.{Dropped}
 use Rattle.node_rules.specs.declared.refusal.Dropped.TheVariants as drops
 use Rattle.node_rules.specs.Ciphers.{Ciphers}
 use Rattle.node_rules.specs.Coordinators as coordinator_rules
-use Rattle.node_rules.specs.Hearing.{Hearing, hear}
+use Rattle.node_rules.specs.HearingRules.{Hearing, hear}
 use Rattle.node_rules.specs.Memory.{Memory, Node, Role, Coordinator, Meter}
 use Rattle.node_rules.specs.MemoryDrafts.{Unread, unread}
 use Rattle.node_rules.specs.Meters as meters
@@ -18,8 +18,8 @@ use Rattle.node_rules.specs.NodeSteps.{NodeStep, acts, left_by, stays}
 use Rattle.node_rules.specs.Plans.{Plan, carry_out}
 use Rattle.line_rules.specs.Answers.{Reception, Up, meter_reception, coordinator_reception}
 use Rattle.line_rules.specs.Steps.{hearing_step, identity}
-use Rattle.line_progress.proofs.Acting.{Acted, Whole, Failed, acts_either}
-use Rattle.line_progress.proofs.Receiving.{Receives, AsPlanned, HasHalted, says, receives}
+use Rattle.line_progress.proofs.WholePlans.{Acted, Whole, Failed, acts_either}
+use Rattle.line_progress.proofs.StationReceipts.{Receives, AsPlanned, HasHalted, says, receives}
 use Rattle.line_progress.proofs.Silence.{IsSilent, meters_are_silent, coordinators_are_silent}
 
 -- nothing is handed up, or what the station's plan hands up

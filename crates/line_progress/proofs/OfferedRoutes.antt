@@ -12,7 +12,7 @@ use Rattle.routing_set.specs.declared.entry.Route.{Route}
 use Rattle.routing_set.specs.declared.entry.RoutingEntry.{RoutingEntry}
 use Rattle.routing_set.specs.RoutingSet.{Routing, entered, entries_after, first_to_go, forgotten, offered, offered_entry, next_of, place_of, ranks}
 use Rattle.routing_set.proofs.LookUps.{entry_of-find, is_at, is_at-false, is_at-true}
-use Rattle.routing_set.proofs.Rising.{route-by}
+use Rattle.routing_set.proofs.RisingRanks.{route-by}
 use Rattle.node_rules.specs.Memory.{StationMemory, next_hop}
 
 -- what is set behind what fails a test is the first that passes it

@@ -16,7 +16,7 @@ use Rattle.line_progress.specs.Arrival.{IsBrought, DatagramsArrive, last_answer}
 use Rattle.line_progress.specs.AnyOrder.{flights_over, in_all, none_over, ways_at_first, ways_after, next_after, delivery_over, answer_over}
 use Rattle.line_progress.specs.AnyOrder.{IsOrder, deliveries_over, answers_over}
 use Rattle.line_progress.proofs.AnyOrder.{fly_in_order, arrive_so}
-use Rattle.line_progress.proofs.Arriving.{InFrames}
+use Rattle.line_progress.proofs.RouteArrivals.{InFrames}
 use Rattle.line_progress.proofs.Routes.{IsUnderWay}
 
 -- An order of deliveries, with its events and what is answered to them.
@@ -40,7 +40,7 @@ turn j next stops ways order es says event word after left some number_is left_i
       ∙ (λ i. word_is i ∷ so.answers_are i);
 }
 
--- Links after others, over which so many are under way: what a delivery over one of the later links makes of all.
+-- Links after others, over which this many are under way: what a delivery over one of the later links makes of all.
 record IsAfter (j before : ℕ) (nodes : List Stop → List Stop) (links : List (List ℕ) → List (List ℕ)) : Type 0 where
   left : (next k i : ℕ) → k ≡ j + i → (q : List (List ℕ)) → ways_after next k (links q) ≡ links (ways_after next i q)
   number : (next k i : ℕ) → k ≡ j + i → (q : List (List ℕ)) → next_after next k (links q) ≡ next_after next i q

@@ -3,7 +3,7 @@ use Rattle.std.proofs.Common.{◌≡◌, ℕ, Bool, true, false, List, [], ◌�
 use Rattle.std.specs.Prelude.{if◌then◌else◌, ◌==◌, ◌&&◌}
 use Rattle.std.proofs.lemmas.Bool.{and_from, eq-eqb}
 use Rattle.fragment_buffers.specs.Reassembly.{PlacedPiece, Reassembly, begun, datagram_of, overlaps, placed, repeats}
-use Rattle.fragment_buffers.specs.Taking.{Taking, Full, Held, behind, grown, has_room, joined, same_name, settled, taken, taken_in}
+use Rattle.fragment_buffers.specs.PieceIntake.{Taking, Full, Held, behind, grown, has_room, joined, same_name, settled, taken, taken_in}
 use Rattle.line_progress.specs.Lists.{Among, Here, Later}
 use Rattle.line_progress.specs.PieceFates.{IsSameOne, PieceFate, StaysHeld, CameUp, Discarded, PiecesHaveFates}
 

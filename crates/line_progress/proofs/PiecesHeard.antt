@@ -1,13 +1,13 @@
 -- What becomes of what is gathered where a frame is heard.
 use Rattle.std.proofs.Common.{ℕ, Option, ap}
 use Rattle.mesh_header.specs.declared.unit.Unit.{Unit as MeshUnit}
-use Rattle.mesh_header.specs.Reading.{unit_in}
+use Rattle.mesh_header.specs.Reader.{unit_in}
 use Rattle.node_rules.specs.declared.heard.Path.{Path}
-use Rattle.node_rules.specs.Hearing.{Hearing}
+use Rattle.node_rules.specs.HearingRules.{Hearing}
 use Rattle.node_rules.specs.Memory.{StationMemory}
 use Rattle.node_rules.specs.Plans.{resting}
 use Rattle.line_progress.specs.PieceFates.{KeepsPieces, Same, Gathers, HearingKeepsPieces}
-use Rattle.line_progress.proofs.Hearings.{Made, Quietly, HandsUp, Takes, Heards, Quiet, ByFrame, heard_so}
+use Rattle.line_progress.proofs.HeardDatagrams.{Made, Quietly, HandsUp, Takes, Heards, Quiet, ByFrame, heard_so}
 
 by_unit : (l : StationMemory) (own : ℕ) (u : MeshUnit) (note now : ℕ) (p : Hearing) → Made l own u note now p → KeepsPieces l p
 unfolding resting

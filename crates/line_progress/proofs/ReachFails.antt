@@ -3,13 +3,13 @@ use Rattle.std.proofs.Common.{◌≡◌, ℕ, Bool, true, false, List, length, O
 use Rattle.std.specs.Prelude.{if◌then◌else◌, nat_lt}
 use Rattle.std.specs.Option.{option_map_or}
 use Rattle.broadcast_log.specs.declared.broadcast.Broadcast.{Broadcast}
-use Rattle.broadcast_log.specs.Reading.{broadcast_in}
+use Rattle.broadcast_log.specs.Reader.{broadcast_in}
 use Rattle.neighbour_checks.specs.Acks.{ack_in}
 use Rattle.path_requests.specs.declared.message.PathMessage.{PathMessage}
 use Rattle.path_requests.specs.declared.step.PathStep.{PathStep}
 use Rattle.path_requests.specs.declared.step.PathStep.TheVariants.{Forward, Answer, Done}
 use Rattle.path_requests.specs.declared.step.PathRefusal.{PathRefusal}
-use Rattle.path_requests.specs.Reading.{path_in}
+use Rattle.path_requests.specs.Reader.{path_in}
 use Rattle.node_rules.specs.Drafts.{Draft, Ends, checked, choose, counters_left, refused, sealed, sealing}
 use Rattle.node_rules.specs.Memory.{Memory, address_of, station_route}
 use Rattle.node_rules.specs.MemoryDrafts.{in_memory}
@@ -18,9 +18,9 @@ use Rattle.reach_rules.specs.declared.heard.CommandHeard.{CommandHeard}
 use Rattle.reach_rules.specs.declared.refusal.ReachDropped.{ReachDropped}
 use Rattle.reach_rules.specs.Broadcasts.{broadcast, broadcast_ends, hear_broadcast_in}
 use Rattle.reach_rules.specs.CheckedReplies.{hear_acknowledgement_in}
-use Rattle.reach_rules.specs.PathAsking.{ask_ends, ask_path, asks_by, follows_path, hear_path_in}
+use Rattle.reach_rules.specs.PathRequests.{ask_ends, ask_path, asks_by, follows_path, hear_path_in}
 use Rattle.reach_rules.specs.ReachingNodes.{Reaching, in_reach, reach_ends}
-use Rattle.reach_rules.specs.Receiving.{NeighbourCommand, hear_command, hear_command_at}
+use Rattle.reach_rules.specs.FurtherReceptions.{NeighbourCommand, hear_command, hear_command_at}
 
 -- where a write of it fails, a plan says so
 pub record FailsSo {H E : Type 0} (ends : Ends E) (p : Plan (Reaching Memory) (Result H E)) : Type 0 where

@@ -7,7 +7,7 @@ use Rattle.mac_frames.specs.declared.head.MacHead.{MacHead}
 use Rattle.mac_frames.specs.declared.head.MacHead.TheVariants as heads
 use Rattle.broadcast_log.specs.declared.broadcast.Broadcast.{Broadcast}
 use Rattle.broadcast_log.specs.Grammar.{spelling}
-use Rattle.broadcast_log.specs.Reading.{broadcast_in}
+use Rattle.broadcast_log.specs.Reader.{broadcast_in}
 use Rattle.frame_counters.specs.declared.fault.PeerFault.{PeerFault}
 use Rattle.frame_counters.specs.PeerMarks as marks
 use Rattle.group_keys.specs.KeyRing as rings
@@ -16,11 +16,11 @@ use Rattle.path_requests.specs.declared.message.PathMessage.{PathMessage}
 use Rattle.path_requests.specs.declared.step.PathStep.{PathStep}
 use Rattle.path_requests.specs.declared.step.PathStep.TheVariants.{Forward, Answer, Done}
 use Rattle.path_requests.specs.declared.step.PathRefusal.{PathRefusal}
-use Rattle.path_requests.specs.Reading.{path_in}
+use Rattle.path_requests.specs.Reader.{path_in}
 use Rattle.node_rules.specs.Accepted.{Accepted}
 use Rattle.node_rules.specs.declared.refusal.FrameRefusal.{FrameRefusal}
 use Rattle.node_rules.specs.declared.refusal.FrameRefusal.TheVariants.{NotForMe}
-use Rattle.node_rules.specs.Accepting.{Accepting, accept, accept_head, admitted, is_for_me, marking, open_sealed, refuse, with_key}
+use Rattle.node_rules.specs.Acceptance.{Accepting, accept, accept_head, admitted, is_for_me, marking, open_sealed, refuse, with_key}
 use Rattle.node_rules.specs.Drafts.{Draft, alone, empty_draft, goes}
 use Rattle.node_rules.specs.Frames.{Arrived, to_all}
 use Rattle.node_rules.specs.Memory.{Memory, StationMemory, address_of}
@@ -30,9 +30,9 @@ use Rattle.node_rules.specs.Plans.{resting}
 use Rattle.reach_rules.specs.declared.refusal.ReachDropped.{ReachDropped}
 use Rattle.reach_rules.specs.Broadcasts.{goes_further, hear_broadcast_in, hop_less, with_broadcast_mark}
 use Rattle.reach_rules.specs.CheckedReplies.{acknowledges, ends_check, hear_acknowledgement_in}
-use Rattle.reach_rules.specs.PathAsking.{follows_path, hear_path_in}
+use Rattle.reach_rules.specs.PathRequests.{follows_path, hear_path_in}
 use Rattle.reach_rules.specs.ReachingNodes.{Reaching, Commanding, adds_local, drop_it, reach_ends}
-use Rattle.reach_rules.specs.Receiving.{NeighbourCommand, hear_command, hear_command_at}
+use Rattle.reach_rules.specs.FurtherReceptions.{NeighbourCommand, hear_command, hear_command_at}
 use Rattle.line_progress.proofs.HeldKept.{PlanKeeps, DraftKeeps, there, same_held, by_choice, by_option, ends_so, says, stops, unnumbered}
 use Rattle.line_progress.proofs.HeldKept as kept
 

@@ -8,11 +8,11 @@ use Rattle.std.proofs.lemmas.List.{append-nil}
 use Rattle.plc_base.specs.declared.key.Key.{Key}
 use Rattle.plc_base.specs.Grant.{Granted}
 use Rattle.mesh_header.specs.declared.unit.Unit.TheVariants as units
-use Rattle.mesh_header.specs.Reading.{unit_in}
+use Rattle.mesh_header.specs.Reader.{unit_in}
 use Rattle.loadng_messages.specs.declared.message.Message.{Message}
 use Rattle.loadng_messages.specs.declared.message.Message.TheVariants.{Rrep}
 use Rattle.loadng_messages.specs.Grammar as messages
-use Rattle.loadng_messages.specs.Reading.{message_in}
+use Rattle.loadng_messages.specs.Reader.{message_in}
 use Rattle.routing_set.specs.declared.rank.Rank.{Rank}
 use Rattle.routing_set.specs.RoutingSet as routing
 use Rattle.node_rules.specs.Accepted.{Accepted}
@@ -21,13 +21,13 @@ use Rattle.node_rules.specs.declared.heard.Heard.TheVariants as heard
 use Rattle.node_rules.specs.declared.refusal.Dropped.TheVariants as drops
 use Rattle.node_rules.specs.Drafts.{Draft, UnsealedUnit, all_go, alone, checked, choose, counted, counters_left, empty_draft, goes, is_awaited, leave}
 use Rattle.node_rules.specs.Drafts.{refused, sealed, sealed_by, sealed_units, sealing, sealing_key, send_message, units_of, waits_for, with_rank}
-use Rattle.node_rules.specs.Hearing.{drop_it, dropped, hear, hear_message_in, hear_reply, hear_reply_for, hear_sealed, hear_unit_in}
-use Rattle.node_rules.specs.Hearing.{learns, offers, passes_on, rank_over}
+use Rattle.node_rules.specs.HearingRules.{drop_it, dropped, hear, hear_message_in, hear_reply, hear_reply_for, hear_sealed, hear_unit_in}
+use Rattle.node_rules.specs.HearingRules.{learns, offers, passes_on, rank_over}
 use Rattle.node_rules.specs.Memory.{Body, StationMemory, next_hop}
-use Rattle.line_progress.proofs.Hearing.{Hears}
+use Rattle.line_progress.proofs.HeardUnits.{Hears}
 use Rattle.line_progress.proofs.Requests.{IsTakeable, message_frame, no_rank_fault, noted, offered_by, offers_alone, sent_with}
 
--- what is left of a station that has learned a route, and from which so many frames have left
+-- what is left of a station that has learned a route, and from which this many frames have left
 abbrev pub learned_of : StationMemory → (dest : ℕ) → Rank → (by now count : ℕ) → StationMemory
 learned_of l dest rank by now count = counted alone count (record l {
   routing = routing.offered l.routing dest rank by now;

@@ -6,17 +6,17 @@ use Rattle.std.proofs.lemmas.List.{append_assoc, length-append}
 use Rattle.plc_base.specs.Addresses.{IsAddress}
 use Rattle.frame_counters.specs.PeerMarks.{kept_after}
 use Rattle.store_tables.proofs.SlotTables.{slice_get-set_other}
-use Rattle.mesh_header.specs.Reading.{unit_in}
+use Rattle.mesh_header.specs.Reader.{unit_in}
 use Rattle.loadng_messages.specs.declared.message.Message.{Message}
 use Rattle.loadng_messages.specs.declared.message.Message.TheVariants.{Rrep}
 use Rattle.loadng_messages.specs.Grammar as messages
-use Rattle.loadng_messages.specs.Reading.{message_in}
+use Rattle.loadng_messages.specs.Reader.{message_in}
 use Rattle.loadng_messages.proofs.Readings.{message_read}
 use Rattle.node_rules.specs.declared.heard.Heard.TheVariants as heard
 use Rattle.node_rules.specs.Ciphers.{Ciphers, OpensWhatItSeals}
 use Rattle.node_rules.specs.Drafts.{counters_left}
 use Rattle.node_rules.specs.Frames.{SealedUnit, Sealed}
-use Rattle.node_rules.specs.Hearing.{rank_over}
+use Rattle.node_rules.specs.HearingRules.{rank_over}
 use Rattle.node_rules.specs.Memory.{StationMemory, next_hop}
 use Rattle.node_rules.specs.MemoryDrafts.{with_station}
 use Rattle.line_events.specs.declared.event.Answer.{Answer}
@@ -32,8 +32,8 @@ use Rattle.line_rules.specs.Worlds.{World, Trace, node_at}
 use Rattle.line_progress.specs.Arrival.{Stop, IsReady, IsNoneOf, IsStraight, last_of}
 use Rattle.line_progress.specs.Discovery.{TakesRequest, AreReached, Search, AreBack, PassesBack}
 use Rattle.line_progress.specs.Discovery.{asked_of, back_answers, back_deliveries, cost_back, counter_back}
-use Rattle.line_progress.proofs.Accepting.{got_by}
-use Rattle.line_progress.proofs.Delivering.{Goes}
+use Rattle.line_progress.proofs.Acceptance.{got_by}
+use Rattle.line_progress.proofs.Deliveries.{Goes}
 use Rattle.line_progress.proofs.Messages.{Holds, IsComing, IsFlying, came, counter_low, flies_last, holds_then, is_target, message_by, message_goes, step_is}
 use Rattle.line_progress.proofs.Messages.{still, to_me, to_one, unit_is}
 use Rattle.line_progress.proofs.OfferedRoutes.{next_by}

@@ -10,11 +10,11 @@ use Rattle.plc_base.specs.Keeper.{Write}
 use Rattle.frame_counters.specs.PeerMarks.{kept_after}
 use Rattle.store_tables.proofs.SlotTables.{slice_get-set, slice_get-set_other}
 use Rattle.mesh_header.specs.Grammar.{spelling}
-use Rattle.mesh_header.specs.Reading.{unit_in}
+use Rattle.mesh_header.specs.Reader.{unit_in}
 use Rattle.loadng_messages.specs.declared.message.Message.{Message}
 use Rattle.loadng_messages.specs.declared.message.Message.TheVariants.{Rreq, Rrep}
 use Rattle.loadng_messages.specs.Grammar as messages
-use Rattle.loadng_messages.specs.Reading.{message_in}
+use Rattle.loadng_messages.specs.Reader.{message_in}
 use Rattle.loadng_messages.proofs.Readings.{message_read}
 use Rattle.routing_set.specs.RoutingSet as routing
 use Rattle.node_rules.specs.declared.heard.Heard.TheVariants as heard
@@ -23,7 +23,7 @@ use Rattle.node_rules.specs.Calls.{tag_taken}
 use Rattle.node_rules.specs.Ciphers.{Ciphers, OpensWhatItSeals}
 use Rattle.node_rules.specs.Drafts.{counters_left, empty_draft, tag_after, tag_write}
 use Rattle.node_rules.specs.Frames.{SealedUnit, Sealed, to_all}
-use Rattle.node_rules.specs.Hearing.{rank_over}
+use Rattle.node_rules.specs.HearingRules.{rank_over}
 use Rattle.node_rules.specs.Memory.{StationMemory, Memory, Node, next_hop, node_route, station_route}
 use Rattle.node_rules.specs.MemoryDrafts.{with_station}
 use Rattle.line_events.specs.declared.event.Answer.{Answer}
@@ -39,14 +39,14 @@ use Rattle.line_rules.specs.Steps.{sends_by}
 use Rattle.line_rules.specs.Worlds.{World, Trace, node_at}
 use Rattle.line_progress.specs.Arrival.{Stop, IsReady, AreReady, IsNoneOf, IsStraight, last_of, deliveries, delivery_answers, answers_of}
 use Rattle.line_progress.specs.Discovery.{TakesRequest, asked_of, MayAnswer, AreReached, LeadTo, hop_at, IsSought, MayReach, RequestsArrive}
-use Rattle.line_progress.proofs.Accepting.{got_by}
-use Rattle.line_progress.proofs.Delivering.{Goes}
+use Rattle.line_progress.proofs.Acceptance.{got_by}
+use Rattle.line_progress.proofs.Deliveries.{Goes}
 use Rattle.line_progress.proofs.Messages.{Holds, IsComing, IsFlying, came, counter_low, flies_last, holds_then, message_by, message_goes, step_is, still}
 use Rattle.line_progress.proofs.Messages.{to_everyone, unit_is}
 use Rattle.line_progress.proofs.OfferedRoutes.{next_by}
 use Rattle.line_progress.proofs.Requests.{IsTakeable, is_answered, is_passed_on, numbered}
 use Rattle.line_progress.proofs.Seeking.{seeking_of, seeks_it}
-use Rattle.line_progress.proofs.Sending.{Leaves, begun_with, it_leaves, steps_so, takes_next, takes_none}
+use Rattle.line_progress.proofs.SentDatagrams.{Leaves, begun_with, it_leaves, steps_so, takes_next, takes_none}
 use Rattle.line_progress.proofs.Routes.{AreFit, Says, address_is, all_there, fit_of, last_ready, runs_on, says_first}
 
 -- # On the way

@@ -11,11 +11,11 @@ use Rattle.plc_base.specs.Grant.{Granted}
 use Rattle.store_tables.specs.Writes.{puts_of}
 use Rattle.frame_counters.specs.SendCounter as counters
 use Rattle.mesh_header.specs.declared.unit.Unit.TheVariants as units
-use Rattle.mesh_header.specs.Reading.{unit_in}
+use Rattle.mesh_header.specs.Reader.{unit_in}
 use Rattle.loadng_messages.specs.declared.message.Message.{Message}
 use Rattle.loadng_messages.specs.declared.message.Message.TheVariants.{Rreq, Rrep}
 use Rattle.loadng_messages.specs.Grammar as messages
-use Rattle.loadng_messages.specs.Reading.{message_in}
+use Rattle.loadng_messages.specs.Reader.{message_in}
 use Rattle.routing_set.specs.declared.rank.Rank.{Rank}
 use Rattle.routing_set.specs.OwnNumber as own_number
 use Rattle.routing_set.specs.RoutingSet as routing
@@ -27,10 +27,10 @@ use Rattle.node_rules.specs.Drafts.{Draft, all_go, alone, checked, choose, count
 use Rattle.node_rules.specs.Drafts.{refused, sealed, sealed_by, sealed_units, sealing, sealing_key, send_message, units_of, waits_for}
 use Rattle.node_rules.specs.Drafts.{with_own_number, with_rank}
 use Rattle.node_rules.specs.Frames.{Sent, Sealed, to_all}
-use Rattle.node_rules.specs.Hearing.{answers, drop_it, dropped, hear, hear_message_in, hear_sealed, hear_unit_in}
-use Rattle.node_rules.specs.Hearing.{offers, offers_numbered, rank_fault, rank_over, sends_on}
+use Rattle.node_rules.specs.HearingRules.{answers, drop_it, dropped, hear, hear_message_in, hear_sealed, hear_unit_in}
+use Rattle.node_rules.specs.HearingRules.{offers, offers_numbered, rank_fault, rank_over, sends_on}
 use Rattle.node_rules.specs.Memory.{Body, StationMemory}
-use Rattle.line_progress.proofs.Hearing.{Hears}
+use Rattle.line_progress.proofs.HeardUnits.{Hears}
 
 -- # Nothing leaves where nothing waits
 

@@ -11,16 +11,16 @@ use Rattle.store_tables.proofs.SlotTables.{slice_get-push, slice_get-set, slice_
 use Rattle.mesh_header.specs.declared.unit.Mesh.{Mesh}
 use Rattle.mesh_header.specs.declared.unit.Unit.{Unit as MeshUnit}
 use Rattle.mesh_header.specs.Grammar.{IsMesh}
-use Rattle.mesh_header.specs.Reading.{unit_in}
+use Rattle.mesh_header.specs.Reader.{unit_in}
 use Rattle.routing_set.specs.RoutingSet as routing
 use Rattle.fragment_buffers.specs.Reassembly.{Reassembly}
 use Rattle.node_rules.specs.declared.heard.Heard.{Heard}
 use Rattle.node_rules.specs.declared.heard.Heard.TheVariants as heard
-use Rattle.node_rules.specs.Accepting.{marking}
+use Rattle.node_rules.specs.Acceptance.{marking}
 use Rattle.node_rules.specs.Ciphers.{Ciphers, OpensWhatItSeals}
 use Rattle.node_rules.specs.Drafts.{counters_left}
 use Rattle.node_rules.specs.Frames.{SealedUnit, Sealed, spelled, to_all}
-use Rattle.node_rules.specs.Hearing.{hear, hop_less}
+use Rattle.node_rules.specs.HearingRules.{hear, hop_less}
 use Rattle.node_rules.specs.Memory.{StationMemory, Memory, Node, next_hop, node_address, address_of}
 use Rattle.node_rules.specs.MemoryDrafts.{unread, with_station}
 use Rattle.line_events.specs.declared.event.Answer.{Answer}
@@ -34,12 +34,12 @@ use Rattle.line_rules.specs.Runs.{Entry, entries_of, one_of, run, ups}
 use Rattle.line_rules.specs.Steps.{flight_by}
 use Rattle.line_rules.specs.Worlds.{World, Flight, Trace, node_at, flight_at}
 use Rattle.line_progress.specs.Arrival.{Stop, IsReady, HasLink, AreReady, IsNoneOf, last_of, answers_of}
-use Rattle.line_progress.proofs.Sealing.{IsSealable}
-use Rattle.line_progress.proofs.Accepting.{got_of}
+use Rattle.line_progress.proofs.SealedUnits.{IsSealable}
+use Rattle.line_progress.proofs.Acceptance.{got_of}
 use Rattle.line_progress.proofs.NextCounter.{admits_next}
 use Rattle.line_progress.proofs.Contents.{Content, IsContent, unit_with, taken_up}
-use Rattle.line_progress.proofs.Hearing.{Hears, goes_on, is_taken_up, sent_one}
-use Rattle.line_progress.proofs.Delivering.{Goes, delivered, frame_comes, marked, note_is, reads}
+use Rattle.line_progress.proofs.HeardUnits.{Hears, goes_on, is_taken_up, sent_one}
+use Rattle.line_progress.proofs.Deliveries.{Goes, delivered, frame_comes, marked, note_is, reads}
 
 -- # Runs
 
@@ -125,7 +125,7 @@ all_there w v number y (t ∷ rest) same none ready = (
   all_there w v number y rest same none.1 ready.2,
 )
 
--- A node of a route now, after so many frames went by it to an address: it admits this next counter of the node before it, and, at the end of
+-- A node of a route now, after this many frames went by it to an address: it admits this next counter of the node before it, and, at the end of
 -- the route, it holds these reassemblies.
 pub record IsNow (w : World) (dest from next sent : ℕ) (held : List Reassembly) (s : Stop) : Type 0 where
   pub node : Node
@@ -163,7 +163,7 @@ still w v dest from next sent held s same now = record {
 
 -- # On the way
 
--- what a node of a route seals for the next one, after so many frames
+-- what a node of a route seals for the next one, after this many frames
 abbrev pub sealed_for : Stop → Stop → ℕ → MeshUnit → ℕ → SealedUnit
 sealed_for s t sent unit note = record {
   to = t.granted.address;
@@ -175,7 +175,7 @@ sealed_for s t sent unit note = record {
   note = note;
 }
 
--- The flight at a place has a unit of a datagram for an address, from a node of a route to the next one; so many nodes are to come.
+-- The flight at a place has a unit of a datagram for an address, from a node of a route to the next one; this many nodes are to come.
 pub record IsUnderWay (ciphers : Ciphers) (w : World) (place dest origin sent : ℕ) (s t : Stop) (content : Content) (more : ℕ) : Type 0 where
   pub f : Flight
   pub mesh : Mesh

@@ -11,15 +11,15 @@ use Rattle.loadng_messages.specs.declared.message.Message.TheVariants.{Rreq}
 use Rattle.routing_set.specs.OwnNumber as own_number
 use Rattle.node_rules.specs.declared.heard.SentHow.TheVariants as how_of
 use Rattle.node_rules.specs.declared.refusal.SendRefusal.TheVariants as refusals
-use Rattle.node_rules.specs.Accepting.{is_own}
+use Rattle.node_rules.specs.Acceptance.{is_own}
 use Rattle.node_rules.specs.Calls.{Sending, how, lacking, send, send_fault, send_from, sending_ends, tag_taken}
 use Rattle.node_rules.specs.Drafts.{Draft, OfRoom, OfNumbers, alone, checked, counters_left, empty_draft, goes, is_awaited, lack, no_room, numbers_spent}
 use Rattle.node_rules.specs.Drafts.{refused, sealed, sealed_by, sealed_units, sealing, sealing_key, seeks, seeks_once, sets_out, waits, with_own_number}
 use Rattle.node_rules.specs.Frames.{to_all}
 use Rattle.node_rules.specs.Memory.{StationMemory, Datagram, next_hop}
-use Rattle.line_progress.proofs.Accepting.{own_is}
+use Rattle.line_progress.proofs.Acceptance.{own_is}
 use Rattle.line_progress.proofs.Requests.{message_frame, sent_with}
-use Rattle.line_progress.proofs.Sending.{SendsIt, begun_with}
+use Rattle.line_progress.proofs.SentDatagrams.{SendsIt, begun_with}
 
 -- what is left of a station that lets a datagram wait, with the tag that is then the next one
 abbrev pub seeking_of : StationMemory → (dest tag : ℕ) → List ℕ → (note now : ℕ) → StationMemory

@@ -23,8 +23,8 @@ use Rattle.line_rules.specs.Steps.{world_after}
 use Rattle.line_rules.specs.Worlds.{World, Trace, node_at}
 use Rattle.line_progress.specs.SendFates.{SendFate, WentOut, Waits, Refused, SendEventFate, Flew, Stayed, NotTaken, SendEventsHaveFates}
 use Rattle.line_progress.proofs.SendFates.{send_fates}
-use Rattle.line_progress.proofs.Sending.{steps_so}
-use Rattle.line_progress.proofs.Acting.{Acted, Whole, Failed, acts_either}
+use Rattle.line_progress.proofs.SentDatagrams.{steps_so}
+use Rattle.line_progress.proofs.WholePlans.{Acted, Whole, Failed, acts_either}
 
 pub inside : {A : Type 0} (xs : List A) (k : ℕ) (x : A) → slice_get xs k ≡ Some x → k < length xs
 inside [] k x e = absurd (cc)

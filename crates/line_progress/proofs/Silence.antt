@@ -3,7 +3,7 @@ use Rattle.std.proofs.Common.{◌≡◌, ℕ, Bool, true, false, List, [], ◌�
 use Rattle.std.specs.Prelude.{if◌then◌else◌, nat_lt}
 use Rattle.std.specs.Option.{option_map_or}
 use Rattle.plc_base.specs.declared.address.Eui.{Eui}
-use Rattle.plc_base.specs.declared.key.Rand.{Rand}
+use Rattle.plc_base.specs.declared.key.RandomOctets.{RandomOctets}
 use Rattle.plc_base.specs.Grant.{Granted}
 use Rattle.group_keys.specs.declared.key_book.BookEntry.{BookEntry}
 use Rattle.joining_messages.specs.declared.message.JoinMessage.{JoinMessage}
@@ -19,7 +19,7 @@ use Rattle.node_rules.specs.declared.heard.Way.TheVariants.{Air, Near, Mesh}
 use Rattle.node_rules.specs.declared.refusal.Dropped.{Dropped}
 use Rattle.node_rules.specs.Coordinators as coordinator_rules
 use Rattle.node_rules.specs.Drafts.{Draft, choose, checked, counters_left, refused, sealed, sealing}
-use Rattle.node_rules.specs.Hearing.{dropped}
+use Rattle.node_rules.specs.HearingRules.{dropped}
 use Rattle.node_rules.specs.Memory.{Memory, MeterSession, SessionWay, ByAgent, ByCommand, CoordinatorSession, address_of}
 use Rattle.node_rules.specs.MemoryDrafts.{in_memory, oldest}
 use Rattle.node_rules.specs.Meters as meters
@@ -185,7 +185,8 @@ module _ (own : coordinator_rules.CoordinatorIdentity) (m : Memory) (now : ℕ) 
       if_right _ _ (either coordinator_reception coordinator_drops_none m _ (coordinator_rules.grant_for m s.server.eui) _
       (λ granted. if_right _ _ (done_by _ (coordinator_heard.Keyed _ _) refl)) (refuses_it _))
 
-  fourth : (s : CoordinatorSession) (e : BookEntry) (packet : List ℕ) (rand_p : Rand) → Still (coordinator_rules.take_fourth own m s e packet rand_p now)
+  fourth : (s : CoordinatorSession) (e : BookEntry) (packet : List ℕ) (rand_p : RandomOctets)
+      → Still (coordinator_rules.take_fourth own m s e packet rand_p now)
   fourth s e packet rand_p = if_right _ _ (if_right _ _ (done_by _ (coordinator_heard.Done _ _) refl))
 
   packets : (e : BookEntry) (packet : List ℕ) (s : CoordinatorSession) → Still (coordinator_rules.take_packet own m e packet now s)

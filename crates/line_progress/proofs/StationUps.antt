@@ -10,22 +10,22 @@ use Rattle.std.proofs.Math.Seq.{get_or-append_seam}
 use Rattle.mesh_header.specs.declared.unit.Unit.{Unit as MeshUnit}
 use Rattle.mesh_header.specs.declared.unit.Unit.TheVariants as units
 use Rattle.mesh_header.specs.Pieces.{Placed}
-use Rattle.mesh_header.specs.Reading.{unit_in}
+use Rattle.mesh_header.specs.Reader.{unit_in}
 use Rattle.fragment_buffers.specs.Laws.{no_piece}
 use Rattle.fragment_buffers.specs.Reassembly.{PlacedPiece, Reassembly, begun, datagram_of, octet_of, overlap, overlaps, placed, repeats}
-use Rattle.fragment_buffers.specs.Taking.{Taking, Outcome, Full, Held, Whole, behind, grown, has_room, joined, same_name, settled, taken, taken_in}
+use Rattle.fragment_buffers.specs.PieceIntake.{Taking, Outcome, Full, Held, Whole, behind, grown, has_room, joined, same_name, settled, taken, taken_in}
 use Rattle.fragment_buffers.proofs.Apart.{whole_reads}
 use Rattle.fragment_buffers.proofs.Places.{none_passes}
 use Rattle.node_rules.specs.Accepted.{Accepted}
 use Rattle.node_rules.specs.declared.heard.Heard.{Heard}
 use Rattle.node_rules.specs.declared.heard.Heard.TheVariants as heard
 use Rattle.node_rules.specs.declared.refusal.Dropped.{Dropped}
-use Rattle.node_rules.specs.Hearing.{Hearing, gathered}
+use Rattle.node_rules.specs.HearingRules.{Hearing, gathered}
 use Rattle.node_rules.specs.Memory.{StationMemory, address_of}
 use Rattle.node_rules.specs.Plans.{resting}
 use Rattle.line_progress.specs.Lists.{Among, Here, Later}
 use Rattle.line_progress.specs.Ups.{HasTaken, Began, Grew, IsPartOf, HandedFrom, OneUnit, LastPiece, StationUp, StationsHandUp}
-use Rattle.line_progress.proofs.Hearings.{hands_up_one, Made, Quietly, HandsUp, Takes, Heards, Quiet, ByFrame, heard_so}
+use Rattle.line_progress.proofs.HeardDatagrams.{hands_up_one, Made, Quietly, HandsUp, Takes, Heards, Quiet, ByFrame, heard_so}
 
 -- # The place of a piece
 

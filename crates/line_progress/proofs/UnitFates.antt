@@ -14,9 +14,9 @@ use Rattle.node_rules.specs.declared.heard.Heard.TheVariants as heard
 use Rattle.node_rules.specs.declared.refusal.Dropped.TheVariants as drops
 use Rattle.node_rules.specs.Drafts.{Draft, alone, choose, counters_left, empty_draft, goes, refused, sealed, sealing}
 use Rattle.node_rules.specs.Drafts.{send_message}
-use Rattle.node_rules.specs.Hearing.{drop_it, dropped, forward, forward_by, forwards, gather, hands_up, hear, hear_sealed}
-use Rattle.node_rules.specs.Hearing.{hear_unit_in}
-use Rattle.node_rules.specs.Hearing.{is_spent, report_by}
+use Rattle.node_rules.specs.HearingRules.{drop_it, dropped, forward, forward_by, forwards, gather, hands_up, hear, hear_sealed}
+use Rattle.node_rules.specs.HearingRules.{hear_unit_in}
+use Rattle.node_rules.specs.HearingRules.{is_spent, report_by}
 use Rattle.node_rules.specs.Memory.{StationMemory, next_hop}
 use Rattle.node_rules.specs.Plans.{resting}
 use Rattle.line_progress.specs.UnitFates.{UnitFate, HandedUp, TakenIn, WentOn, Ended, Reported, UnitsHaveFates}

@@ -25,7 +25,7 @@ abbrev pub in_all : List (List ℕ) → ℕ
 in_all [] = 0
 in_all (flights ∷ ways) = length flights + in_all ways
 
--- At first so many fly over the first link, numbered from a number on, and none over the others.
+-- At first this many fly over the first link, numbered from a number on, and none over the others.
 abbrev pub none_over : List Stop → List (List ℕ)
 none_over [] = []
 none_over (t ∷ rest) = [] ∷ none_over rest

@@ -39,7 +39,7 @@ pub record IsReady (s : Stop) : Type 0 where
   pub index : s.granted.active ≤ 1
   pub key : sealing_key s.granted ≡ Some s.key
 
--- A link toward an address holds for so many frames: the one node has a valid route to the address by the other, as many counters, and a key
+-- A link toward an address holds for this many frames: the one node has a valid route to the address by the other, as many counters, and a key
 -- that the other holds at the same index; and the other admits the first of these counters.
 pub record HasLink (frames dest : ℕ) (s t : Stop) : Type 0 where
   pub on : s.granted.address ≢ dest
@@ -81,7 +81,7 @@ abbrev pub deliveries : (flight next : ℕ) → Stop → List Stop → List Even
 deliveries flight next s [] = Deliver flight s.number s.cost ∷ []
 deliveries flight next s (t ∷ rest) = Deliver flight s.number s.cost ∷ deliveries next (next + 1) t rest
 
--- So many flights, numbered from the first on, come to the last node, one after the other.
+-- This many flights, numbered from the first on, come to the last node, one after the other.
 abbrev pub all_deliveries : (frames flight next : ℕ) → Stop → List Stop → List Event
 all_deliveries zero flight next t rest = []
 all_deliveries (suc more) flight next t rest =
@@ -97,7 +97,7 @@ abbrev pub last_answer : ℕ → Answer
 last_answer zero = answers.Up
 last_answer (suc more) = answers.Held
 
--- what they answer to so many frames
+-- what they answer to this many frames
 abbrev pub all_answers : ℕ → List Stop → List Answer
 all_answers zero rest = []
 all_answers (suc more) rest = delivery_answers (last_answer more) rest ++ all_answers more rest

@@ -3,12 +3,12 @@ use Rattle.std.specs.Prelude.{◌≡◌, ℕ, List, Some}
 use Rattle.plc_base.specs.declared.key.Key.{Key}
 use Rattle.plc_base.specs.Grant.{Granted}
 use Rattle.fragment_buffers.specs.Loads.{UnsealedUnit}
-use Rattle.fragment_buffers.specs.Waiting.{units_by}
+use Rattle.fragment_buffers.specs.WaitingBodies.{units_by}
 use Rattle.node_rules.specs.Accepted.{Accepted}
 use Rattle.node_rules.specs.Drafts.{sealing_key}
 use Rattle.node_rules.specs.Ciphers.{Ciphers}
 use Rattle.node_rules.specs.Frames.{Sent, Sealed, spelled}
-use Rattle.node_rules.specs.Hearing.{Hearing, hear}
+use Rattle.node_rules.specs.HearingRules.{Hearing, hear}
 use Rattle.node_rules.specs.Memory.{StationMemory, Body}
 use Rattle.line_rules.specs.Steps.{flight_by}
 use Rattle.line_rules.specs.Worlds.{Flight}

@@ -3,7 +3,7 @@ use Rattle.std.specs.Prelude.{◌≡◌, ℕ, nat_lt, List, [], ◌∷◌, Some,
 use Rattle.mesh_header.specs.declared.unit.Unit.TheVariants as units
 use Rattle.broadcast_log.specs.declared.broadcast.Broadcast.{Broadcast}
 use Rattle.broadcast_log.specs.Grammar.{spelling}
-use Rattle.broadcast_log.specs.Reading.{broadcast_in}
+use Rattle.broadcast_log.specs.Reader.{broadcast_in}
 use Rattle.node_rules.specs.Drafts.{sealed_by}
 use Rattle.node_rules.specs.Frames.{to_all}
 use Rattle.node_rules.specs.Memory.{Memory}
@@ -11,7 +11,7 @@ use Rattle.node_rules.specs.MemoryDrafts.{in_memory}
 use Rattle.reach_rules.specs.declared.heard.CommandHeard.TheVariants as heard
 use Rattle.reach_rules.specs.Broadcasts.{hop_less}
 use Rattle.reach_rules.specs.ReachingNodes.{Beside, Commanding}
-use Rattle.reach_rules.specs.Receiving.{NeighbourCommand, hear_command}
+use Rattle.reach_rules.specs.FurtherReceptions.{NeighbourCommand, hear_command}
 
 -- The command carries the broadcast that is handed up. With two hops or more it goes to all, sealed with the next counter, with one hop less, and nothing
 -- else is sent; with fewer nothing is.

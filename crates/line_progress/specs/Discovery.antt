@@ -9,7 +9,7 @@ use Rattle.fragment_buffers.specs.Fragmentation.{pieces_of}
 use Rattle.routing_set.specs.RoutingSet.{is_better, is_full, offered}
 use Rattle.node_rules.specs.Ciphers.{Ciphers, OpensWhatItSeals}
 use Rattle.node_rules.specs.Drafts.{counters_left, is_awaited, no_room}
-use Rattle.node_rules.specs.Hearing.{rank_over}
+use Rattle.node_rules.specs.HearingRules.{rank_over}
 use Rattle.node_rules.specs.Memory.{Node, StationMemory, next_hop, node_route}
 use Rattle.line_events.specs.declared.event.Answer.{Answer}
 use Rattle.line_events.specs.declared.event.Answer.TheVariants as answers

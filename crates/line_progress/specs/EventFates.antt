@@ -7,11 +7,11 @@ use Rattle.plc_base.specs.Times.{is_within}
 use Rattle.mesh_header.specs.declared.unit.Mesh.{Mesh}
 use Rattle.mesh_header.specs.declared.unit.Unit.TheVariants as units
 use Rattle.mesh_header.specs.Pieces.{Placed}
-use Rattle.mesh_header.specs.Reading.{unit_in}
+use Rattle.mesh_header.specs.Reader.{unit_in}
 use Rattle.fragment_buffers.specs.Loads.{UnsealedUnit}
 use Rattle.fragment_buffers.specs.Reassembly.{PlacedPiece, Reassembly, begun, datagram_of, overlaps, placed}
-use Rattle.fragment_buffers.specs.Taking.{same_name}
-use Rattle.fragment_buffers.specs.Waiting.{units_by}
+use Rattle.fragment_buffers.specs.PieceIntake.{same_name}
+use Rattle.fragment_buffers.specs.WaitingBodies.{units_by}
 use Rattle.fragment_buffers.specs.declared.times.TheConstants.{REASSEMBLY_TIME, WAITING_TIME}
 use Rattle.node_rules.specs.Accepted.{Accepted}
 use Rattle.node_rules.specs.declared.heard.Path.TheVariants as paths
@@ -50,7 +50,7 @@ hides_a_loss (events.Near a b cost) = true
 hides_a_loss (events.Counter node value) = true
 hides_a_loss (events.Number node value) = true
 hides_a_loss events.Checks = true
-hides_a_loss (events.Rand node value) = true
+hides_a_loss (events.RandomOctets node value) = true
 hides_a_loss (events.Join node agent) = true
 hides_a_loss (events.Choose node k) = true
 hides_a_loss _ = false

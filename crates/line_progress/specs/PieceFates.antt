@@ -2,9 +2,9 @@
 use Rattle.std.specs.Prelude.{◌≡◌, ℕ, true, List, length, Some}
 use Rattle.mesh_header.specs.Pieces.{Placed}
 use Rattle.fragment_buffers.specs.Reassembly.{PlacedPiece, Reassembly, begun, datagram_of, overlaps, placed}
-use Rattle.fragment_buffers.specs.Taking.{Taking, Full, Held, Whole, same_name, taken}
+use Rattle.fragment_buffers.specs.PieceIntake.{Taking, Full, Held, Whole, same_name, taken}
 use Rattle.node_rules.specs.Accepted.{Accepted}
-use Rattle.node_rules.specs.Hearing.{Hearing, gather, hear}
+use Rattle.node_rules.specs.HearingRules.{Hearing, gather, hear}
 use Rattle.node_rules.specs.Memory.{StationMemory}
 use Rattle.line_progress.specs.Lists.{Among}
 

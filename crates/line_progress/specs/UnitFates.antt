@@ -6,7 +6,7 @@ use Rattle.mesh_header.specs.declared.unit.Mesh.{Mesh}
 use Rattle.mesh_header.specs.declared.unit.Unit.{Unit as MeshUnit}
 use Rattle.mesh_header.specs.declared.unit.Unit.TheVariants as units
 use Rattle.mesh_header.specs.Pieces.{Placed}
-use Rattle.mesh_header.specs.Reading.{unit_in}
+use Rattle.mesh_header.specs.Reader.{unit_in}
 use Rattle.node_rules.specs.Accepted.{Accepted}
 use Rattle.node_rules.specs.declared.heard.Heard.TheVariants as heard
 use Rattle.node_rules.specs.declared.heard.Path.TheVariants as paths
@@ -15,7 +15,7 @@ use Rattle.node_rules.specs.declared.refusal.Dropped.TheVariants as drops
 use Rattle.node_rules.specs.Drafts.{sealed_by, sealing_key}
 use Rattle.node_rules.specs.Ciphers.{Ciphers}
 use Rattle.node_rules.specs.Frames.{SealedUnit, Sealed, spelled}
-use Rattle.node_rules.specs.Hearing.{Hearing, gather, hear, hop_less}
+use Rattle.node_rules.specs.HearingRules.{Hearing, gather, hear, hop_less}
 use Rattle.node_rules.specs.Memory.{StationMemory, Memory, Node, next_hop}
 use Rattle.reach_rules.specs.Beacons.{is_discovery}
 use Rattle.line_events.specs.declared.event.Answer.{Answer}

@@ -1,9 +1,9 @@
 mod AnswerLines
-mod Drilling
+mod DrillLoops
 mod Inside
-mod Quieting
+mod QuietReports
 mod Replayed
 mod ReportLines
-mod Running
-mod Turning
+mod DriverRuns
+mod EventTurns
 pub mod Flies

@@ -8,8 +8,8 @@ use Rattle.program_ends.specs.declared.status.Status.{Status}
 use Rattle.program_ends.specs.declared.status.Status.TheVariants as status
 use Rattle.program_ends.specs.Runs.{Ran}
 use Rattle.line_replay.specs.Tool.{Replays}
-use Rattle.line_replay.proofs.Running.{entries_run, last_is, report_by_entries, names, breaks_as}
-use Rattle.line_replay.proofs.Quieting.{report_quieted}
+use Rattle.line_replay.proofs.DriverRuns.{entries_run, last_is, report_by_entries, names, breaks_as}
+use Rattle.line_replay.proofs.QuietReports.{report_quieted}
 
 pub replays_of : (quiet : Bool) {source0 source1 : SourceState} {sink0 sink1 : SinkState} {s : Status}
     → Ran is_forged status.Forged (outcome quiet) source0 source1 sink0 sink1 s → ((octets : List ℕ) (e : Bool) → IsRight (entries octets e))

@@ -5,7 +5,7 @@ use Rattle.std.specs.Int.{w16, w32, to_be_bytes}
 use Rattle.std.specs.Fmt.{decimal}
 use Rattle.plc_base.specs.declared.address.Eui.{Eui}
 use Rattle.plc_base.specs.declared.key.Key.{Key}
-use Rattle.plc_base.specs.declared.key.Rand.{Rand}
+use Rattle.plc_base.specs.declared.key.RandomOctets.{RandomOctets}
 use Rattle.node_rules.specs.Ciphers.{network}
 use Rattle.line_events.specs.declared.event.Event.{Event}
 use Rattle.line_events.specs.declared.event.Event.TheVariants as events
@@ -31,7 +31,7 @@ abbrev pub pair_key : ℕ → Key
 pair_key node = record { 0 = wide (1000 + node) }
 
 -- the random value that is the nth of a drill
-abbrev pub drawn : ℕ → Rand
+abbrev pub drawn : ℕ → RandomOctets
 drawn number = record { 0 = wide number }
 
 -- the EUI of a node
@@ -120,7 +120,7 @@ make meters d = each make_meter meters (make_coordinator d)
 
 -- the coordinator and a meter are given the next two random values, for a session
 unfoldable pub draw : (first node : ℕ) → Drilling → Drilling
-draw first node d = after (events.Rand node (drawn (first + 1))) (after (events.Rand 0 (drawn first)) d)
+draw first node d = after (events.RandomOctets node (drawn (first + 1))) (after (events.RandomOctets 0 (drawn first)) d)
 
 -- a meter joins by its parent
 unfoldable pub join : (meters node : ℕ) → Drilling → Drilling
@@ -166,6 +166,6 @@ abbrev pub drill_text_of : ℕ → World → List ℕ
 drill_text_of meters w =
     codes "drill " ++ (decimal meters ++ (codes "\ndone " ++ (decimal w.done ++ (codes "\n" ++ end_text (totals w)))))
 
--- the text of a drill with so many meters
+-- the text of a drill with this many meters
 unfoldable pub drill_text : (meters : ℕ) → List ℕ
 drill_text meters = drill_text_of meters (drilled meters)

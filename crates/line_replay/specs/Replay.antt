@@ -7,10 +7,10 @@ use Rattle.script_lines.specs.Outcomes.{Turn, Skips, Takes, Stops, Outcome, outc
 use Rattle.line_rules.specs.Worlds.{World, start}
 use Rattle.line_rules.specs.Runs.{Entry}
 use Rattle.line_script.specs.Texts.{happened_text, bad_text, end_text}
-pub use Rattle.script_runs.specs.Takings.{Taking, Skipped, Taken, Refused, step_taking, event_taking, reading_taking}
-pub use Rattle.script_runs.specs.Takings.{entries_by, entries_from, entries}
-pub use Rattle.script_runs.specs.Takings.{BadLine, bad_by, first_bad_from, first_bad}
-unfoldable pub use Rattle.script_runs.specs.Takings.{taking}
+pub use Rattle.script_runs.specs.TakenLines.{Taking, Skipped, Taken, Refused, step_taking, event_taking, reading_taking}
+pub use Rattle.script_runs.specs.TakenLines.{entries_by, entries_from, entries}
+pub use Rattle.script_runs.specs.TakenLines.{BadLine, bad_by, first_bad_from, first_bad}
+unfoldable pub use Rattle.script_runs.specs.TakenLines.{taking}
 use Rattle.line_replay.specs.Texts.{sent_text, totals}
 
 -- ---- the report

@@ -7,14 +7,14 @@ use Rattle.script_lines.specs.Clauses.{IsStop}
 use Rattle.script_lines.specs.Outcomes.{Turn, Skips, Takes, Stops, Outcome, outcome as outcome_of}
 use Rattle.pan_discovery.specs.declared.message.Discovery.{Discovery}
 use Rattle.pan_discovery.specs.declared.message.Discovery.TheVariants.{Request, Beacon}
-use Rattle.pan_discovery.specs.Reading.{discovery_in}
+use Rattle.pan_discovery.specs.Reader.{discovery_in}
 use Rattle.plc_base.specs.declared.fields.Fault.{Fault}
 use Rattle.mac_frames.specs.declared.fault.FrameFaultKind.{FrameFaultKind}
 use Rattle.mac_frames.specs.declared.fault.FrameFaultKind.TheVariants as kinds
 use Rattle.mac_frames.specs.declared.head.MacHead.{MacHead}
 use Rattle.mac_frames.specs.declared.head.MacHead.TheVariants.{Sealed, Up, Down}
 use Rattle.mac_frames.specs.Faults.{frame_fault}
-use Rattle.mac_frames.specs.Reading.{head_in, body_in}
+use Rattle.mac_frames.specs.Reader.{head_in, body_in}
 use Rattle.line_replay.specs.declared.show.FrameLine.{FrameLine}
 use Rattle.line_replay.specs.declared.show.FrameLine.TheVariants.{Quiet, NoForm, Reads}
 use Rattle.line_script.specs.declared.report.Reason.TheVariants as reasons

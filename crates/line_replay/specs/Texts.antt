@@ -12,7 +12,7 @@ fly_by number (Some f) = fly_text number f.from f.octets
 unfoldable pub flight_text : World → ℕ → List ℕ
 flight_text w number = fly_by number (flight_at w number)
 
--- the lines of so many flights from a number on
+-- the lines of this many flights from a number on
 unfoldable pub flies_text : World → ℕ → ℕ → List ℕ
 flies_text w first zero = []
 flies_text w first (suc count) = flies_text w first count ++ flight_text w (first + count)

@@ -21,7 +21,7 @@ use Rattle.program_ends.specs.Texts.{WritesText}
 use Rattle.line_replay.specs.Shown.{show_outcome}
 use Rattle.line_replay.specs.Replay.{is_forged, outcome, report, entries, entries_text, last_text, EndsBy, first_bad, forged_in, without_flights}
 
--- a drill with so many meters: 1 to 60, as a line has a number
+-- a drill with this many meters: 1 to 60, as a line has a number
 abbrev pub drill_of : List ℕ → Option Command
 drill_of word = option_map Drill (number_within 1 60 word)
 

@@ -9,7 +9,7 @@ use crate::report::totals;
 use line_events::{Event, MAX_EVENTS, StepFault};
 use line_script::end_text;
 use line_world::{Buffers, World};
-use plc_base::{Eui, Key, KeyIndex, LinkCost, OctetRef, Rand};
+use plc_base::{Eui, Key, KeyIndex, LinkCost, OctetRef, RandomOctets};
 use std::alloc::{AllocError, Global};
 use std::marker::Model;
 
@@ -55,7 +55,7 @@ fn cost(a: u16, b: u32) -> LinkCost
     LinkCost::new(1 + (sum % 7) as u8).unwrap()
 }
 
-/// The reading of a meter in a round, with so many zeros after it.
+/// The reading of a meter in a round, with this many zeros after it.
 #[tactic(auto, unfolding(crate::specs::Drills::reading))]
 fn reading(alloc: Global, node: u32, round: u16, zeros: usize) -> Result<Vec<u8>, AllocError>
     requires { zeros ≤ 2044 }
@@ -206,10 +206,10 @@ impl Drill {
         requires { first ≤ 65535 }
         ensures { OnOk result (self.new ≡ draw first node self.old) }
     {
-        let value = Rand(wide(first));
-        self.take(&Event::Rand { node: 0, value })?;
-        let value = Rand(wide(first + 1));
-        self.take(&Event::Rand { node, value })
+        let value = RandomOctets(wide(first));
+        self.take(&Event::RandomOctets { node: 0, value })?;
+        let value = RandomOctets(wide(first + 1));
+        self.take(&Event::RandomOctets { node, value })
     }
 
     /// A meter joins by its parent.
@@ -353,7 +353,7 @@ fn new_drill(alloc: Global) -> Result<Drill, AllocError>
     })
 }
 
-/// The text of a drill with so many meters that left this world: the number, how many joinings are done, and the last line of a
+/// The text of a drill with this many meters that left this world: the number, how many joinings are done, and the last line of a
 /// report.
 fn text_of(alloc: Global, meters: u8, world: &World) -> Result<String, AllocError>
     ensures { IfOk result (λ text. string_bytes text ≡ drill_text_of meters world.now) }
@@ -363,7 +363,7 @@ fn text_of(alloc: Global, meters: u8, world: &World) -> Result<String, AllocErro
     format!(in alloc; "drill {meters}\ndone {done}\n{end}")
 }
 
-/// Runs a drill with so many meters. Answers its text.
+/// Runs a drill with this many meters. Answers its text.
 #[inline(never)]
 fn run_text(alloc: Global, meters: u8, drill: &mut Drill) -> Result<String, AllocError>
     ensures { IfOk result (λ text. string_bytes text ≡ drill_text_of meters (drill_from meters drill.old).world) }
@@ -372,7 +372,7 @@ fn run_text(alloc: Global, meters: u8, drill: &mut Drill) -> Result<String, Allo
     text_of(alloc, meters, &drill.world)
 }
 
-/// The text of a drill with so many meters.
+/// The text of a drill with this many meters.
 pub fn drill_text(alloc: Global, meters: u8) -> Result<String, AllocError>
     ensures { IfOk result (λ text. string_bytes text ≡ drill_text meters) }
 {

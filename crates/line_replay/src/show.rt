@@ -221,7 +221,7 @@ impl LineMachine for Show {
                 FrameLine::Quiet => Ok(()),
                 FrameLine::NoForm => refuse(self.alloc, number, Reason::Form, sink),
                 FrameLine::Reads(octets) => {
-                    // No input has so many lines.
+                    // No input has this many lines.
                     let Some(frames) = self.frames.checked_add(1) else {
                         return Err(StopReason::Memory);
                     };

@@ -71,7 +71,7 @@ pub enum Command {
     Show,
     /// `vectors`: writes what the ciphers make of known inputs.
     Vectors,
-    /// `drill N`: runs a line of so many meters, with events that are one function of the number, and writes what was counted.
+    /// `drill N`: runs a line of this many meters, with events that are one function of the number, and writes what was counted.
     Drill {
         /// 1 to 60.
         meters: u8,
@@ -104,7 +104,7 @@ fn drill_of(number: &str) -> Option<Command>
     })
 }
 
-/// Runs a drill of so many meters, and writes its text.
+/// Runs a drill of this many meters, and writes its text.
 #[inline(never)]
 fn run_drill<K: Sink>(alloc: Global, meters: u8, sink: &mut K) -> Status
     ensures drill { WritesTextOrMemory (drill_text meters) Status.Fine (K.state sink.old) (K.state sink.new) result }

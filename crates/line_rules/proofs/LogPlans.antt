@@ -11,7 +11,7 @@ use Rattle.std.proofs.lemmas.List.Elements.{All-nil, All-cons}
 use Rattle.std.proofs.lemmas.Option.{same_Some}
 use Rattle.plc_base.specs.Fields.{AreOctets}
 use Rattle.store_tables.specs.Writes.{Written, write, puts_of}
-use Rattle.plc_base.specs.declared.key.Rand.{Rand}
+use Rattle.plc_base.specs.declared.key.RandomOctets.{RandomOctets}
 use Rattle.plc_base.specs.declared.address.Eui.{Eui}
 use Rattle.frame_counters.specs.SendCounter as counter
 use Rattle.frame_counters.specs.PeerMarks as marks
@@ -28,18 +28,18 @@ use Rattle.broadcast_log.specs.Log.{admitted_log}
 use Rattle.broadcast_log.specs.NextNumber.{is_spent, limit_in}
 use Rattle.store_tables.specs.SlotTables.{slot_of}
 use Rattle.broadcast_log.specs.OriginMarks.{keep_write, marks as log_marks, room_for}
-use Rattle.broadcast_log.specs.Reading.{broadcast_in}
-use Rattle.broadcast_log.proofs.Leading.{admission_leads, number_leads}
+use Rattle.broadcast_log.specs.Reader.{broadcast_in}
+use Rattle.broadcast_log.proofs.LogPuts.{admission_leads, number_leads}
 use Rattle.broadcast_log.proofs.Spellings.{broadcast_spelled}
 use Rattle.path_requests.specs.declared.message.PathMessage.{PathMessage}
 use Rattle.path_requests.specs.declared.step.PathStep.{PathStep}
 use Rattle.path_requests.specs.declared.step.PathStep.TheVariants.{Forward, Answer, Done}
 use Rattle.path_requests.specs.declared.step.PathRefusal.{PathRefusal}
-use Rattle.path_requests.specs.Reading.{path_in}
-use Rattle.path_requests.specs.Taking.{taken}
+use Rattle.path_requests.specs.Reader.{path_in}
+use Rattle.path_requests.specs.PathSteps.{taken}
 use Rattle.neighbour_checks.specs.Acks.{ack_in}
 use Rattle.node_rules.specs.declared.heard.Reply.{Reply}
-use Rattle.node_rules.specs.Accepting.{Accepting, accept, marking}
+use Rattle.node_rules.specs.Acceptance.{Accepting, accept, marking}
 use Rattle.node_rules.specs.Ciphers.{network}
 use Rattle.node_rules.specs.declared.refusal.Dropped.TheVariants as drops_by
 use Rattle.node_rules.specs.Neighbours.{local_draft, local_ends}
@@ -64,8 +64,8 @@ use Rattle.reach_rules.specs.ReachingNodes.{Beside, Reaching, in_reach, nothing_
 use Rattle.reach_rules.specs.CheckedReplies.{acknowledges, hear_acknowledgement_in}
 use Rattle.reach_rules.specs.Broadcasts.{broadcast, broadcast_from, broadcast_ends, broadcast_fault, datagram_fault, own_broadcast, with_broadcast_number}
 use Rattle.reach_rules.specs.Broadcasts.{with_broadcast_mark, hop_less, goes_further, admits_broadcast, hear_broadcast_in, mark_fault}
-use Rattle.reach_rules.specs.PathAsking.{ask_path, asks_from, asks_by, ask_ends, follows_path, hear_path_in, next_toward}
-use Rattle.reach_rules.specs.Receiving.{NeighbourCommand, hear_command, hear_command_at}
+use Rattle.reach_rules.specs.PathRequests.{ask_path, asks_from, asks_by, ask_ends, follows_path, hear_path_in, next_toward}
+use Rattle.reach_rules.specs.FurtherReceptions.{NeighbourCommand, hear_command, hear_command_at}
 use Rattle.reach_rules.specs.Beacons.{choose_agent, choosing_ends, joins_by}
 use Rattle.pan_discovery.specs.Agents.{kth_of}
 use Rattle.line_rules.specs.Steps.{blank_node}
@@ -128,7 +128,7 @@ key = record { 0 = [] }
 someone : Eui → meters.Identity
 someone eui = record { eui = eui; psk = key; ciphers = network }
 
-pub random_leaves : (m : Memory) → HasShortTables m.station → (value : Rand) → LeavesLog (give_random m value)
+pub random_leaves : (m : Memory) → HasShortTables m.station → (value : RandomOctets) → LeavesLog (give_random m value)
 random_leaves m short value = (meters_leave_log (someone (record { 0 = [] })) m short).takes_random value
 
 pub leave_leaves : (m : Memory) → HasShortTables m.station → LeavesLog (meters.leave m)

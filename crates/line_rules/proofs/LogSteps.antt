@@ -16,7 +16,7 @@ use Rattle.broadcast_log.specs.Log.{Log, opened}
 use Rattle.broadcast_log.specs.NextNumber.{limit_in}
 use Rattle.broadcast_log.specs.OriginMarks.{marks}
 use Rattle.broadcast_log.specs.Laws.{IsLogIn}
-use Rattle.broadcast_log.proofs.Reopening.{opened_in}
+use Rattle.broadcast_log.proofs.ReopenedLogs.{opened_in}
 use Rattle.node_rules.specs.Memory.{Memory, Node}
 use Rattle.node_rules.specs.LogSlots.{SameLog, IsBesideLog, LeavesLog}
 use Rattle.node_rules.specs.NodeSteps.{NodeStep, acts, stays, left_by as node_left}

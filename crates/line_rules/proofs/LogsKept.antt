@@ -8,7 +8,7 @@ use Rattle.std.proofs.lemmas.List.Elements.{All-nil}
 use Rattle.std.proofs.lemmas.Option.{same_Some}
 use Rattle.plc_base.specs.declared.address.Eui.{Eui}
 use Rattle.plc_base.specs.declared.key.Key.{Key}
-use Rattle.plc_base.specs.declared.key.Rand.{Rand}
+use Rattle.plc_base.specs.declared.key.RandomOctets.{RandomOctets}
 use Rattle.plc_base.specs.declared.keeper.BadStore.{BadStore}
 use Rattle.plc_base.specs.Grant.{Granted}
 use Rattle.line_events.specs.declared.event.Event.{Event}
@@ -32,12 +32,12 @@ use Rattle.node_rules.specs.Coordinators as coordinator_rules
 use Rattle.node_rules.specs.NodeSteps.{NodeStep, acts, stays, answering, of_station}
 use Rattle.node_rules.specs.Plans.{Plan, resting}
 use Rattle.node_rules.specs.Replies.{reply_among}
-use Rattle.node_rules.specs.Accepting.{accept}
+use Rattle.node_rules.specs.Acceptance.{accept}
 use Rattle.node_rules.specs.Frames.{arrived}
 use Rattle.plc_base.specs.Fields.{AreOctets}
 use Rattle.node_rules.specs.declared.refusal.LocalRefusal.TheVariants as locals
 use Rattle.reach_rules.specs.CheckedReplies.{acknowledges, checks_after, message_of}
-use Rattle.node_rules.specs.StoreReading.{blank_station, first_grant, remembering}
+use Rattle.node_rules.specs.RestartStates.{blank_station, first_grant, remembering}
 use Rattle.node_rules.specs.Tables.{HasShortTables}
 use Rattle.node_rules.proofs.LogPuts.{stations_leave_log, meters_leave_log, coordinators_leave_log}
 use Rattle.reach_rules.specs.declared.refusal.ReachDropped.TheVariants as reach_drops
@@ -47,8 +47,8 @@ use Rattle.reach_rules.specs.declared.refusal.ChooseRefusal.TheVariants as choic
 use Rattle.reach_rules.specs.ReachingNodes.{Beside, nothing_beside, tick_beside, restarted}
 use Rattle.reach_rules.specs.Beacons.{is_discovery, choose_agent}
 use Rattle.reach_rules.specs.Broadcasts.{broadcast}
-use Rattle.reach_rules.specs.PathAsking.{ask_path}
-use Rattle.reach_rules.specs.Receiving.{NeighbourCommand, command_of, hear_command}
+use Rattle.reach_rules.specs.PathRequests.{ask_path}
+use Rattle.reach_rules.specs.FurtherReceptions.{NeighbourCommand, command_of, hear_command}
 use Rattle.node_rules.specs.MemoryDrafts.{in_memory}
 use Rattle.line_rules.specs.Answers.{Reception, only, coordinator_reception, meter_reception}
 use Rattle.line_rules.specs.Forgery.{OfFlight, OfScript, accepting}
@@ -203,7 +203,7 @@ module _ (ciphers : Ciphers) (w : World) (short : HaveShortTables w) (h : LogsKe
       (λ psk pair. quiet_after (running_world w) refl h 0 c hc (acts c (Err orders.Halted) (λ m. coordinator_rules.allow m x.eui psk))
       (ordered_in c hc (λ m. coordinator_rules.allow m x.eui psk) (λ m s. (coordinators_leave_log (own c) m s).allows x.eui psk))) tt)))
 
-  rand_in : (number : ℕ) (value : Rand) → Kept (rand ciphers w number value)
+  rand_in : (number : ℕ) (value : RandomOctets) → Kept (rand ciphers w number value)
   unfolding rand
   rand_in number value = once _ (at_node number _ (λ x hx. acted_in number x hx _ (acts_quiet x _ _ (λ m e. random_leaves m (shorts number x hx m e) value))))
 
@@ -511,7 +511,7 @@ module _ (ciphers : Ciphers) (w : World) (short : HaveShortTables w) (h : LogsKe
   line_in (events.Counter node value) are = preset_in node _ (λ l s. (stations_leave_log l s).counter value)
   line_in (events.Number node value) are = preset_in node _ (λ l s. (stations_leave_log l s).number value)
   line_in (events.Allow node) are = allow_in node
-  line_in (events.Rand node value) are = rand_in node value
+  line_in (events.RandomOctets node value) are = rand_in node value
   line_in (events.Join node agent) are = join_in node agent
   line_in (events.Leave node) are = leave_in node
   line_in (events.Send from to datagram) are = send_in from to datagram

@@ -7,7 +7,7 @@ use Rattle.std.proofs.lemmas.List.{append_assoc, append-nil, length-append, leng
 use Rattle.std.proofs.lemmas.Option.{none-some, same_Some}
 use Rattle.plc_base.specs.declared.address.Eui.{Eui}
 use Rattle.plc_base.specs.declared.key.Key.{Key}
-use Rattle.plc_base.specs.declared.key.Rand.{Rand}
+use Rattle.plc_base.specs.declared.key.RandomOctets.{RandomOctets}
 use Rattle.plc_base.specs.Grant.{Granted}
 use Rattle.line_events.specs.declared.event.Event.{Event}
 use Rattle.line_events.specs.declared.event.Event.TheVariants as events
@@ -28,7 +28,7 @@ use Rattle.node_rules.specs.declared.refusal.LocalRefusal.{LocalRefusal}
 use Rattle.node_rules.specs.Memory.{Memory}
 use Rattle.reach_rules.specs.ReachingNodes.{Beside, restarted}
 use Rattle.reach_rules.specs.Beacons.{is_discovery}
-use Rattle.reach_rules.specs.Receiving.{NeighbourCommand, command_of}
+use Rattle.reach_rules.specs.FurtherReceptions.{NeighbourCommand, command_of}
 use Rattle.line_rules.specs.Answers.{Reception}
 use Rattle.line_rules.specs.Worlds.{World, Flight, Trace, node_at, flight_at}
 use Rattle.line_rules.specs.Steps.{provisioned, ticked, Step, set_up, running_world, world_after, node_outcome, has_begun, takes_setup, once_begun, in_setup}
@@ -190,7 +190,7 @@ module _ (ciphers : Ciphers) (w : World) where
       by_option (λ psk. Ok (allowed ciphers w number (acts c (Err orders.Halted) (λ m. coordinator_rules.allow m x.eui psk)))) (psk_of x) _
       (λ psk. Taken _ (goes_after ciphers w _ 0 _ (ran_goes w))) (Fails faults.Node))))
 
-  rand_shape : (number : ℕ) (value : Rand) → StepShape w (rand ciphers w number value)
+  rand_shape : (number : ℕ) (value : RandomOctets) → StepShape w (rand ciphers w number value)
   unfolding rand
   rand_shape number value = once _ (at_node number _ (λ x. Taken _ (acted_goes number _)))
 
@@ -339,7 +339,7 @@ module _ (ciphers : Ciphers) (w : World) where
   step_shape (events.Counter node value) = preset_shape node _
   step_shape (events.Number node value) = preset_shape node _
   step_shape (events.Allow node) = allow_shape node
-  step_shape (events.Rand node value) = rand_shape node value
+  step_shape (events.RandomOctets node value) = rand_shape node value
   step_shape (events.Join node agent) = join_shape node agent
   step_shape (events.Leave node) = leave_shape node
   step_shape (events.Send from to datagram) = send_shape from to datagram
@@ -491,7 +491,7 @@ module _ (ciphers : Ciphers) (w : World) where
   line_shape (events.Counter node value) = preset_shape node _
   line_shape (events.Number node value) = preset_shape node _
   line_shape (events.Allow node) = allow_shape node
-  line_shape (events.Rand node value) = rand_shape node value
+  line_shape (events.RandomOctets node value) = rand_shape node value
   line_shape (events.Join node agent) = join_shape node agent
   line_shape (events.Leave node) = leave_shape node
   line_shape (events.Send from to datagram) = send_shape from to datagram

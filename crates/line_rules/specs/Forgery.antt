@@ -3,7 +3,7 @@ use Rattle.std.specs.Prelude.{◌≡◌, ◌↔◌, ℕ, Bool, true, List, [], �
 use Rattle.plc_base.specs.Addresses.{eui_number}
 use Rattle.plc_base.specs.declared.address.Eui.{Eui}
 use Rattle.plc_base.specs.declared.key.Key.{Key}
-use Rattle.plc_base.specs.declared.key.Rand.{Rand}
+use Rattle.plc_base.specs.declared.key.RandomOctets.{RandomOctets}
 use Rattle.plc_base.specs.declared.tags.PairTag.{PairTag}
 use Rattle.plc_base.specs.declared.tags.PairTag.TheVariants as tags
 use Rattle.line_events.specs.declared.event.Event.{Event}
@@ -12,7 +12,7 @@ use Rattle.node_rules.specs.Accepted.{Accepted}
 use Rattle.node_rules.specs.declared.heard.Path.TheVariants as paths
 use Rattle.node_rules.specs.declared.refusal.FrameRefusal.{FrameRefusal}
 use Rattle.node_rules.specs.declared.refusal.FrameRefusal.TheVariants as frames
-use Rattle.node_rules.specs.Accepting.{accept}
+use Rattle.node_rules.specs.Acceptance.{accept}
 use Rattle.node_rules.specs.Ciphers.{Ciphers}
 use Rattle.node_rules.specs.Frames.{arrived}
 use Rattle.node_rules.specs.Memory.{Node}
@@ -57,7 +57,7 @@ pub data IsSameTag : PairTag → PairTag → Type 0 where
       → IsSameTag (tags.MacP a octets) (tags.MacP b octets)
   BothMacS : (a b : Eui) (octets : List ℕ) → eui_number a ≡ eui_number b
       → IsSameTag (tags.MacS a octets) (tags.MacS b octets)
-  BothChannel : (a b : Eui) (rand_p : Rand) (nonce : ℕ) (header text : List ℕ) → eui_number a ≡ eui_number b
+  BothChannel : (a b : Eui) (rand_p : RandomOctets) (nonce : ℕ) (header text : List ℕ) → eui_number a ≡ eui_number b
       → IsSameTag (tags.Channel a rand_p nonce header text) (tags.Channel b rand_p nonce header text)
 
 -- no node made this tag

@@ -10,10 +10,10 @@ use Rattle.loadng_messages.specs.declared.message.Message.TheVariants.{Rreq, Rre
 use Rattle.pan_discovery.specs.declared.message.Discovery.{Discovery}
 use Rattle.pan_discovery.specs.declared.message.Discovery.TheVariants as discoveries
 use Rattle.pan_discovery.specs.Messages.{discovery_spelling}
-use Rattle.pan_discovery.specs.Reading.{discovery_in}
+use Rattle.pan_discovery.specs.Reader.{discovery_in}
 use Rattle.path_requests.specs.declared.message.PathMessage.{PathMessage}
 use Rattle.path_requests.specs.declared.message.PathMessage.TheVariants.{Ask, Tell}
-use Rattle.path_requests.specs.Reading.{path_in}
+use Rattle.path_requests.specs.Reader.{path_in}
 use Rattle.neighbour_checks.specs.Acks.{ack_in}
 use Rattle.node_rules.specs.Accepted.{Accepted}
 use Rattle.node_rules.specs.declared.heard.Path.{Path}
@@ -30,7 +30,7 @@ use Rattle.node_rules.specs.Memory.{Memory, Node, node_address, node_route}
 use Rattle.node_rules.specs.MemoryDrafts.{in_memory}
 use Rattle.node_rules.specs.NodeSteps.{NodeStep, acts, stays, of_station, answering}
 use Rattle.node_rules.specs.Plans.{Plan, within}
-use Rattle.node_rules.specs.Accepting.{accept}
+use Rattle.node_rules.specs.Acceptance.{accept}
 use Rattle.node_rules.specs.Replies.{reply_among}
 use Rattle.reach_rules.specs.declared.heard.CommandHeard.{CommandHeard}
 use Rattle.reach_rules.specs.declared.heard.CommandHeard.TheVariants as heard_of
@@ -48,9 +48,9 @@ use Rattle.reach_rules.specs.declared.refusal.DiscoveryDropped.{DiscoveryDropped
 use Rattle.reach_rules.specs.ReachingNodes.{Beside, Reaching, nothing_beside, tick_beside, restarted}
 use Rattle.reach_rules.specs.CheckedReplies.{message_of, is_unbelieved, checks_after, acknowledges}
 use Rattle.reach_rules.specs.Broadcasts.{broadcast}
-use Rattle.reach_rules.specs.PathAsking.{ask_path}
+use Rattle.reach_rules.specs.PathRequests.{ask_path}
 use Rattle.reach_rules.specs.Beacons.{ChosenAgent, Discovering, is_discovery, hear_discovery, begin_scan, choose_agent}
-use Rattle.reach_rules.specs.Receiving.{NeighbourCommand, command_of, hear_command}
+use Rattle.reach_rules.specs.FurtherReceptions.{NeighbourCommand, command_of, hear_command}
 use Rattle.line_events.specs.declared.event.Event.{Event}
 use Rattle.line_events.specs.declared.event.Event.TheVariants as events
 use Rattle.line_events.specs.declared.event.Answer.{Answer}
@@ -445,7 +445,7 @@ line_step ciphers w (events.Near a b cost) = step ciphers w (events.Near a b cos
 line_step ciphers w (events.Counter node value) = step ciphers w (events.Counter node value)
 line_step ciphers w (events.Number node value) = step ciphers w (events.Number node value)
 line_step ciphers w (events.Allow node) = step ciphers w (events.Allow node)
-line_step ciphers w (events.Rand node value) = step ciphers w (events.Rand node value)
+line_step ciphers w (events.RandomOctets node value) = step ciphers w (events.RandomOctets node value)
 line_step ciphers w (events.Join node agent) = step ciphers w (events.Join node agent)
 line_step ciphers w (events.Leave node) = step ciphers w (events.Leave node)
 line_step ciphers w (events.Send from to datagram) = step ciphers w (events.Send from to datagram)

@@ -15,7 +15,7 @@ pub record SameFlight (f g : Flight) : Type 0 where
   pub note : g.note ≡ f.note
   pub lost : f.lost ≡ true → g.lost ≡ true
 
--- the flights of the one list stand in front of the other, but for what was lost since
+-- the flights of the one list stand before the other, but for what was lost since
 abbrev pub KeepsFlights : List Flight → List Flight → Type 0
 KeepsFlights [] later = Unit {0}
 KeepsFlights (f ∷ flights) [] = ⊥

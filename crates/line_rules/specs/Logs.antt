@@ -10,7 +10,7 @@ use Rattle.node_rules.specs.Ciphers.{Ciphers}
 use Rattle.node_rules.specs.Memory.{Memory, Node}
 use Rattle.node_rules.specs.Tables.{HasShortTables}
 use Rattle.reach_rules.specs.ReachingNodes.{Beside}
-use Rattle.reach_rules.specs.Receiving.{NeighbourCommand, command_of}
+use Rattle.reach_rules.specs.FurtherReceptions.{NeighbourCommand, command_of}
 use Rattle.line_events.specs.declared.event.Event.{Event}
 use Rattle.plc_base.specs.Fields.{AreOctets}
 use Rattle.line_rules.specs.Forgery.{Comes, accepting}

@@ -4,7 +4,7 @@ use Rattle.plc_base.specs.declared.key.Key.{Key}
 use Rattle.mac_frames.specs.declared.head.MacHead.{MacHead}
 use Rattle.mac_frames.specs.declared.head.MacHead.TheVariants as heads
 use Rattle.mac_frames.specs.Grammar.{IsSealed, IsPlain, header, header_then}
-use Rattle.mac_frames.specs.Reading.{head_in}
+use Rattle.mac_frames.specs.Reader.{head_in}
 use Rattle.mesh_header.specs.Grammar.{spelling}
 use Rattle.joining_messages.specs.declared.message.JoinMessage.{JoinMessage}
 use Rattle.pan_discovery.specs.declared.message.Discovery.{Discovery}

@@ -6,7 +6,7 @@ use Rattle.std.specs.Option.{option_map, option_map_or}
 use Rattle.std.specs.FinMap as maps
 use Rattle.plc_base.specs.declared.address.Eui.{Eui}
 use Rattle.plc_base.specs.declared.key.Key.{Key}
-use Rattle.plc_base.specs.declared.key.Rand.{Rand}
+use Rattle.plc_base.specs.declared.key.RandomOctets.{RandomOctets}
 use Rattle.plc_base.specs.declared.keeper.BadStore.{BadStore}
 use Rattle.plc_base.specs.Grant.{Granted}
 use Rattle.routing_set.specs.RoutingSet as routing
@@ -33,15 +33,15 @@ use Rattle.node_rules.specs.Frames.{spelled, arrived}
 use Rattle.node_rules.specs.Memory.{StationMemory, Memory, Node, Role, Coordinator, Meter, node_address}
 use Rattle.node_rules.specs.Plans.{Plan}
 use Rattle.node_rules.specs.NodeSteps.{NodeStep, acts, stays, of_station, answering, changing}
-use Rattle.node_rules.specs.Accepting.{accept, same_eui}
+use Rattle.node_rules.specs.Acceptance.{accept, same_eui}
 use Rattle.node_rules.specs.Calls as calls
 use Rattle.node_rules.specs.MemoryDrafts.{with_station, give_random}
 use Rattle.node_rules.specs.Meters as meters
 use Rattle.node_rules.specs.Coordinators as coordinator_rules
-use Rattle.node_rules.specs.StoreReading.{memory_of, remembering, blank_station, first_grant}
+use Rattle.node_rules.specs.RestartStates.{memory_of, remembering, blank_station, first_grant}
 use Rattle.line_rules.specs.Answers.{Reception, Up, SentGrant, CompletedJoining, frame_word, sent_word, random_word, join_word, leave_word, ordered_word}
 use Rattle.line_rules.specs.Answers.{meter_reception, coordinator_reception}
-use Rattle.node_rules.specs.Showing.{shown_of}
+use Rattle.node_rules.specs.ShownNodes.{shown_of}
 use Rattle.line_rules.specs.Worlds.{Flight, World, node_at, flight_at, note_of, is_forged_frame, is_forged_tag, Issued, Pairing, Trace, nothing_further}
 pub use Rattle.line_flights.specs.Flights.{flight_by}
 use Rattle.reach_rules.specs.ReachingNodes.{nothing_beside}
@@ -300,7 +300,7 @@ allow ciphers w number =
     (acts c (Err orders.Halted) (λ m. coordinator_rules.allow m x.eui psk)))) (psk_of x) (Err faults.Node))))
 
 -- a node is given a random value
-unfoldable pub rand : Ciphers → World → ℕ → Rand → Step
+unfoldable pub rand : Ciphers → World → ℕ → RandomOctets → Step
 rand ciphers w number value =
     once_begun w (on_node w number
     (λ x. Ok (node_outcome ciphers w number
@@ -512,7 +512,7 @@ ticked now x = record x { memory = option_map (tick_by x.role) x.memory }
     tick_by Coordinator m = coordinator_rules.tick now m
     tick_by (Meter psk) m = meters.tick now m
 
--- the clock goes on by so many seconds, for every node
+-- the clock goes on by this many seconds, for every node
 unfoldable pub tick : World → ℕ → Step
 tick w seconds =
     once_begun w (Ok (
@@ -607,7 +607,7 @@ step ciphers w (events.Near a b cost) = near ciphers w a b cost
 step ciphers w (events.Counter node value) = preset ciphers w node (λ l. calls.preset_counter l value)
 step ciphers w (events.Number node value) = preset ciphers w node (λ l. calls.preset_number l value)
 step ciphers w (events.Allow node) = allow ciphers w node
-step ciphers w (events.Rand node value) = rand ciphers w node value
+step ciphers w (events.RandomOctets node value) = rand ciphers w node value
 step ciphers w (events.Join node agent) = join ciphers w node agent
 step ciphers w (events.Leave node) = leave ciphers w node
 step ciphers w (events.Send from to datagram) = send ciphers w from to datagram

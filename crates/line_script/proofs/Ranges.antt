@@ -18,9 +18,9 @@ use Rattle.std.specs.Str.{bytes_eq}
 use Rattle.line_script.specs.declared.reading.Reading.TheVariants.{Quiet}
 use Rattle.line_script.specs.Kinds.{kind_word, kind_named}
 use Rattle.line_script.specs.Words.{◌>>=◌, Field, field, digit_more, number_from, number, number_within, cost, eui, sixteen_octets, hex_octets, keeps_new}
-use Rattle.line_script.specs.Readings.{coordinator_of, meter_of, depot_of, near_of, counter_of, number_of, allow_of, rand_of, join_of, leave_of, send_of}
-use Rattle.line_script.specs.Readings.{deliver_of, inject_of, lose_of, break_of, tick_of, restart_of, cut_of, rekey_of, challenge_of, activate_of, kick_of}
-use Rattle.line_script.specs.Readings.{show_of, bcast_of, scan_of, choose_of, path_of, event_by, event_alone, event_with, event_of, reads, reading}
+use Rattle.line_script.specs.LineReader.{coordinator_of, meter_of, depot_of, near_of, counter_of, number_of, allow_of, rand_of, join_of, leave_of, send_of}
+use Rattle.line_script.specs.LineReader.{deliver_of, inject_of, lose_of, break_of, tick_of, restart_of, cut_of, rekey_of, challenge_of, activate_of, kick_of}
+use Rattle.line_script.specs.LineReader.{show_of, bcast_of, scan_of, choose_of, path_of, event_by, event_alone, event_with, event_of, reads, reading}
 use Rattle.line_script.specs.Lines.{IsInRange}
 
 if_then : {A B : Type 0} (P : A → Type 0) (Q : B → Type 0) (o : Option A) (f : A → Option B) → IfSome o P → ((a : A) → P a → IfSome (f a) Q)
@@ -311,7 +311,7 @@ kind_fits kinds.Near rest = near_fits rest
 kind_fits kinds.Counter rest = counter_fits rest
 kind_fits kinds.Number rest = number_fits rest
 kind_fits kinds.Allow rest = allow_fits rest
-kind_fits kinds.Rand rest = rand_fits rest
+kind_fits kinds.RandomOctets rest = rand_fits rest
 kind_fits kinds.Join rest = join_fits rest
 kind_fits kinds.Leave rest = leave_fits rest
 kind_fits kinds.Send rest = send_fits rest

@@ -5,9 +5,10 @@ use Rattle.hex.specs.Hex.{encode_lower}
 use Rattle.std.proofs.lemmas.Bool.{lt-ltb, le-ltb, le-leb, eq-eqb}
 use Rattle.plc_base.specs.declared.address.Eui.{Eui}
 use Rattle.plc_base.specs.declared.key.Key.{Key}
-use Rattle.plc_base.specs.declared.key.Rand.{Rand}
+use Rattle.plc_base.specs.declared.key.RandomOctets.{RandomOctets}
 use Rattle.line_events.specs.declared.event.Event.{Event}
-use Rattle.line_events.specs.declared.event.Event.TheVariants.{Coordinator, Meter, Depot, Near, Counter, Number, Allow, Rand as GiveRand, Join, Leave, Send}
+use Rattle.line_events.specs.declared.event.Event.TheVariants.{Coordinator, Meter, Depot, Near, Counter, Number, Allow, RandomOctets as GiveRand, Join, Leave}
+use Rattle.line_events.specs.declared.event.Event.TheVariants.{Send}
 use Rattle.line_events.specs.declared.event.Event.TheVariants.{Deliver, Inject, Lose, Break, Tick, Restart, Cut, Rekey, Challenge, Activate, Kick, Show, Checks}
 use Rattle.line_events.specs.declared.event.Event.TheVariants.{Bcast, Scan, Choose, Path}
 use Rattle.line_events.specs.Events.{IsEvent, AreOctets, IsEui, IsLineOctets}
@@ -16,9 +17,9 @@ use Rattle.line_script.specs.declared.kind.EventKind.TheVariants as kinds
 use Rattle.line_script.specs.declared.reading.Reading.TheVariants.{Reads}
 use Rattle.line_script.specs.Kinds.{kind_word, kind_named}
 use Rattle.line_script.specs.Words.{field, number_within, cost, eui, sixteen_octets, hex_octets, keeps_new}
-use Rattle.line_script.specs.Readings.{coordinator_of, meter_of, depot_of, near_of, counter_of, number_of, allow_of, rand_of, join_of, leave_of, send_of}
-use Rattle.line_script.specs.Readings.{deliver_of, inject_of, lose_of, break_of, tick_of, restart_of, cut_of, rekey_of, challenge_of, activate_of, kick_of}
-use Rattle.line_script.specs.Readings.{show_of, bcast_of, scan_of, choose_of, path_of, event_by, event_alone, event_of, reads, reading}
+use Rattle.line_script.specs.LineReader.{coordinator_of, meter_of, depot_of, near_of, counter_of, number_of, allow_of, rand_of, join_of, leave_of, send_of}
+use Rattle.line_script.specs.LineReader.{deliver_of, inject_of, lose_of, break_of, tick_of, restart_of, cut_of, rekey_of, challenge_of, activate_of, kick_of}
+use Rattle.line_script.specs.LineReader.{show_of, bcast_of, scan_of, choose_of, path_of, event_by, event_alone, event_of, reads, reading}
 use Rattle.line_script.specs.Lines.{spaced, kept_word}
 use Rattle.line_script.specs.Laws.{LinesAreReadBack}
 use Rattle.line_script.proofs.WordsRead.{IsWord, field_read, number_read, decimal_word, hex_word, octets_read, digits_long}
@@ -67,7 +68,7 @@ kind_is_word kinds.Near = (refl, (refl, (refl, (refl, tt))))
 kind_is_word kinds.Counter = (refl, (refl, (refl, (refl, (refl, (refl, (refl, tt)))))))
 kind_is_word kinds.Number = (refl, (refl, (refl, (refl, (refl, (refl, tt))))))
 kind_is_word kinds.Allow = (refl, (refl, (refl, (refl, (refl, tt)))))
-kind_is_word kinds.Rand = (refl, (refl, (refl, (refl, tt))))
+kind_is_word kinds.RandomOctets = (refl, (refl, (refl, (refl, tt))))
 kind_is_word kinds.Join = (refl, (refl, (refl, (refl, tt))))
 kind_is_word kinds.Leave = (refl, (refl, (refl, (refl, (refl, tt)))))
 kind_is_word kinds.Send = (refl, (refl, (refl, (refl, tt))))
@@ -98,7 +99,7 @@ named_by_word kinds.Near = refl
 named_by_word kinds.Counter = refl
 named_by_word kinds.Number = refl
 named_by_word kinds.Allow = refl
-named_by_word kinds.Rand = refl
+named_by_word kinds.RandomOctets = refl
 named_by_word kinds.Join = refl
 named_by_word kinds.Leave = refl
 named_by_word kinds.Send = refl
@@ -133,7 +134,7 @@ kind_read kinds.Near rest = ap reads (event_read kinds.Near rest)
 kind_read kinds.Counter rest = ap reads (event_read kinds.Counter rest)
 kind_read kinds.Number rest = ap reads (event_read kinds.Number rest)
 kind_read kinds.Allow rest = ap reads (event_read kinds.Allow rest)
-kind_read kinds.Rand rest = ap reads (event_read kinds.Rand rest)
+kind_read kinds.RandomOctets rest = ap reads (event_read kinds.RandomOctets rest)
 kind_read kinds.Join rest = ap reads (event_read kinds.Join rest)
 kind_read kinds.Leave rest = ap reads (event_read kinds.Leave rest)
 kind_read kinds.Send rest = ap reads (event_read kinds.Send rest)
@@ -208,7 +209,8 @@ unfolding allow_of
 allow_line_read node is =
     rw (number_read node is) refl
 
-rand_line_read : (node : ℕ) (value : Rand) → IsEvent (GiveRand node value) → rand_of (spaced (decimal node) (encode_lower value.0)) ≡ Some (GiveRand node value)
+rand_line_read : (node : ℕ) (value : RandomOctets) → IsEvent (GiveRand node value)
+    → rand_of (spaced (decimal node) (encode_lower value.0)) ≡ Some (GiveRand node value)
 unfolding rand_of
 rand_line_read node value is =
     rw (field_read (decimal node) (encode_lower value.0) (decimal_word node is.0), number_read node is.0, sixteen_read value.0 is.1) refl
@@ -381,8 +383,8 @@ by_kind_allow : (node : ℕ) → IsEvent (Allow node) → event_by kinds.Allow (
 unfolding event_by
 by_kind_allow node is = allow_line_read node is
 
-by_kind_rand : (node : ℕ) (value : Rand) → IsEvent (GiveRand node value)
-    → event_by kinds.Rand (spaced (decimal node) (encode_lower value.0)) ≡ Some (GiveRand node value)
+by_kind_rand : (node : ℕ) (value : RandomOctets) → IsEvent (GiveRand node value)
+    → event_by kinds.RandomOctets (spaced (decimal node) (encode_lower value.0)) ≡ Some (GiveRand node value)
 unfolding event_by
 by_kind_rand node value is = rand_line_read node value is
 
@@ -483,7 +485,7 @@ read_back (Near a b link) is = line_read kinds.Near _ _ (by_kind_near a b link i
 read_back (Counter node value) is = line_read kinds.Counter _ _ (by_kind_counter node value is)
 read_back (Number node value) is = line_read kinds.Number _ _ (by_kind_number node value is)
 read_back (Allow node) is = line_read kinds.Allow _ _ (by_kind_allow node is)
-read_back (GiveRand node value) is = line_read kinds.Rand _ _ (by_kind_rand node value is)
+read_back (GiveRand node value) is = line_read kinds.RandomOctets _ _ (by_kind_rand node value is)
 read_back (Join node agent) is = line_read kinds.Join _ _ (by_kind_join node agent is)
 read_back (Leave node) is = line_read kinds.Leave _ _ (by_kind_leave node is)
 read_back (Send from to datagram) is = line_read kinds.Send _ _ (by_kind_send from to datagram is)

@@ -2,7 +2,8 @@
 use Rattle.std.specs.Prelude.{ℕ, List, [], ◌∷◌, codes, Option, None, Some, if◌then◌else◌}
 use Rattle.std.specs.Str.{bytes_eq}
 use Rattle.line_script.specs.declared.kind.EventKind.{EventKind}
-use Rattle.line_script.specs.declared.kind.EventKind.TheVariants.{Coordinator, Meter, Depot, Near, Counter, Number, Allow, Rand, Join, Leave, Send, Deliver}
+use Rattle.line_script.specs.declared.kind.EventKind.TheVariants.{Coordinator, Meter, Depot, Near, Counter, Number, Allow, RandomOctets, Join, Leave, Send}
+use Rattle.line_script.specs.declared.kind.EventKind.TheVariants.{Deliver}
 use Rattle.line_script.specs.declared.kind.EventKind.TheVariants.{Inject, Lose, Break, Tick, Restart, Cut, Rekey, Challenge, Activate, Kick, Show, Checks}
 use Rattle.line_script.specs.declared.kind.EventKind.TheVariants.{Bcast, Scan, Choose, Path}
 use Rattle.line_script.specs.declared.kind.TheConstants.{KINDS}
@@ -16,7 +17,7 @@ kind_word Near = codes "near"
 kind_word Counter = codes "counter"
 kind_word Number = codes "number"
 kind_word Allow = codes "allow"
-kind_word Rand = codes "rand"
+kind_word RandomOctets = codes "rand"
 kind_word Join = codes "join"
 kind_word Leave = codes "leave"
 kind_word Send = codes "send"

@@ -1,6 +1,6 @@
 pub mod Kinds
 pub mod Words
-pub mod Readings
+pub mod LineReader
 pub mod Lines
 pub mod Laws
 pub mod AnswerWords

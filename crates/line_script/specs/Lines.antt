@@ -3,7 +3,8 @@ use Rattle.std.specs.Prelude.{ℕ, Bool, true, false, List, ◌++◌, codes}
 use Rattle.std.specs.Fmt.{decimal}
 use Rattle.hex.specs.Hex.{encode_lower}
 use Rattle.line_events.specs.declared.event.Event.{Event}
-use Rattle.line_events.specs.declared.event.Event.TheVariants.{Coordinator, Meter, Depot, Near, Counter, Number, Allow, Rand as GiveRand, Join, Leave, Send}
+use Rattle.line_events.specs.declared.event.Event.TheVariants.{Coordinator, Meter, Depot, Near, Counter, Number, Allow, RandomOctets as GiveRand, Join, Leave}
+use Rattle.line_events.specs.declared.event.Event.TheVariants.{Send}
 use Rattle.line_events.specs.declared.event.Event.TheVariants.{Deliver, Inject, Lose, Break, Tick, Restart, Cut, Rekey, Challenge, Activate, Kick, Show, Checks}
 use Rattle.line_events.specs.declared.event.Event.TheVariants.{Bcast, Scan, Choose, Path}
 use Rattle.line_events.specs.Events.{IsEvent}
@@ -30,7 +31,7 @@ line_of (Near a b cost) = spaced (kind_word kinds.Near) (spaced (decimal a) (spa
 line_of (Counter node value) = spaced (kind_word kinds.Counter) (spaced (decimal node) (decimal value))
 line_of (Number node value) = spaced (kind_word kinds.Number) (spaced (decimal node) (decimal value))
 line_of (Allow node) = spaced (kind_word kinds.Allow) (decimal node)
-line_of (GiveRand node value) = spaced (kind_word kinds.Rand) (spaced (decimal node) (encode_lower value.0))
+line_of (GiveRand node value) = spaced (kind_word kinds.RandomOctets) (spaced (decimal node) (encode_lower value.0))
 line_of (Join node agent) = spaced (kind_word kinds.Join) (spaced (decimal node) (decimal agent))
 line_of (Leave node) = spaced (kind_word kinds.Leave) (decimal node)
 line_of (Send from to datagram) =

@@ -127,7 +127,12 @@ fn push_event(text: &mut String, event: &Event<'_>) -> Result<(), AllocError>
         Event::Counter { node, value } => push_two(text, Kind::Counter, *node, *value),
         Event::Number { node, value } => push_two(text, Kind::Number, *node, u32::from(*value)),
         Event::Allow { node } => push_one(text, Kind::Allow, *node),
-        Event::Rand { node, value } => push_one_hex(text, Kind::Rand, *node, &value.0),
+        Event::RandomOctets { node, value } => push_one_hex(
+            text,
+            Kind::RandomOctets,
+            *node,
+            &value.0,
+        ),
         Event::Join { node, agent } => push_two(text, Kind::Join, *node, *agent),
         Event::Leave { node } => push_one(text, Kind::Leave, *node),
         Event::Send { from, to, datagram } => {

@@ -21,7 +21,7 @@ pub enum EventKind {
     /// Allows a meter.
     Allow,
     /// Gives a random value.
-    Rand,
+    RandomOctets,
     /// Begins a joining.
     Join,
     /// Makes a meter leave.
@@ -78,7 +78,7 @@ const KINDS: [EventKind; 28] = [
     EventKind::Counter,
     EventKind::Number,
     EventKind::Allow,
-    EventKind::Rand,
+    EventKind::RandomOctets,
     EventKind::Join,
     EventKind::Leave,
     EventKind::Break,
@@ -109,7 +109,7 @@ impl EventKind {
             EventKind::Counter => "counter",
             EventKind::Number => "number",
             EventKind::Allow => "allow",
-            EventKind::Rand => "rand",
+            EventKind::RandomOctets => "rand",
             EventKind::Join => "join",
             EventKind::Leave => "leave",
             EventKind::Send => "send",
@@ -133,7 +133,7 @@ impl EventKind {
         }
     }
 
-    /// The kind whose lines begin with this word. None where there is none.
+    /// The kind whose lines begin with this word. None if there is none.
     #[tactic(auto, unfolding(crate::specs::Kinds::kind_named))]
     pub fn named(word: &[u8]) -> Option<EventKind>
         ensures { result ≡ kind_named word.now }

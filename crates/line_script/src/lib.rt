@@ -7,7 +7,7 @@
 //!
 //! What its calls promise, most of them in one clause without a name:
 //!
-//! - A line is read exactly where it is in the language, as the event that `specs/Readings.antt` says (`value`), whose fields are in their
+//! - A line is read exactly where it is in the language, as the event that `specs/LineReader.antt` says (`value`), whose fields are in their
 //!   ranges (`in_range`).
 //! - Each event in its ranges has a line, which is read back as it ([`lines_are_read_back`]).
 //! - Each text is that of `specs/Texts.antt`, appended to what was there; AllocError comes only where there is no memory.

@@ -1,8 +1,9 @@
 //! What a line of a script says.
 ghost use Rattle.std.specs.Prelude.{◌≡◌, length};
-ghost use Rattle.line_script.specs.Readings.{coordinator_of, meter_of, depot_of, near_of, counter_of, number_of, allow_of, rand_of, join_of, leave_of, send_of};
-ghost use Rattle.line_script.specs.Readings.{deliver_of, inject_of, lose_of, break_of, tick_of, restart_of, cut_of, rekey_of, challenge_of, activate_of};
-ghost use Rattle.line_script.specs.Readings.{kick_of, show_of, bcast_of, scan_of, choose_of, path_of, event_by, event_alone, event_of, reading};
+ghost use Rattle.line_script.specs.LineReader.{coordinator_of, meter_of, depot_of, near_of, counter_of, number_of, allow_of, rand_of, join_of, leave_of};
+ghost use Rattle.line_script.specs.LineReader.{send_of};
+ghost use Rattle.line_script.specs.LineReader.{deliver_of, inject_of, lose_of, break_of, tick_of, restart_of, cut_of, rekey_of, challenge_of, activate_of};
+ghost use Rattle.line_script.specs.LineReader.{kick_of, show_of, bcast_of, scan_of, choose_of, path_of, event_by, event_alone, event_of, reading};
 ghost use Rattle.line_script.specs.Lines.{IsInRange};
 
 use crate::kind::{EventKind, is_same};
@@ -10,7 +11,7 @@ use crate::word::{
     LINE_OCTETS, cost, eui, field, hex_octets, keeps_new, number, number_within, sixteen_octets,
 };
 use line_events::Event;
-use plc_base::{Key, KeyIndex, Rand};
+use plc_base::{Key, KeyIndex, RandomOctets};
 
 /// What a line says.
 #[derive(Drop)]
@@ -24,7 +25,7 @@ pub enum Reading<'a> {
 }
 
 /// `coordinator <eui> <key>`
-#[tactic(auto, unfolding(crate::specs::Readings::coordinator_of))]
+#[tactic(auto, unfolding(crate::specs::LineReader::coordinator_of))]
 fn coordinator_of(octets: &[u8]) -> Option<Event<'static>>
     ensures { result ≡ coordinator_of octets.now }
 {
@@ -35,7 +36,7 @@ fn coordinator_of(octets: &[u8]) -> Option<Event<'static>>
 }
 
 /// `meter <eui> <psk>`
-#[tactic(auto, unfolding(crate::specs::Readings::meter_of))]
+#[tactic(auto, unfolding(crate::specs::LineReader::meter_of))]
 fn meter_of(octets: &[u8]) -> Option<Event<'static>>
     ensures { result ≡ meter_of octets.now }
 {
@@ -46,7 +47,7 @@ fn meter_of(octets: &[u8]) -> Option<Event<'static>>
 }
 
 /// `depot <n>`
-#[tactic(auto, unfolding(crate::specs::Readings::depot_of))]
+#[tactic(auto, unfolding(crate::specs::LineReader::depot_of))]
 fn depot_of(octets: &[u8]) -> Option<Event<'static>>
     ensures { result ≡ depot_of octets.now }
 {
@@ -55,7 +56,7 @@ fn depot_of(octets: &[u8]) -> Option<Event<'static>>
 }
 
 /// `near <a> <b> <cost>`
-#[tactic(auto, unfolding(crate::specs::Readings::near_of))]
+#[tactic(auto, unfolding(crate::specs::LineReader::near_of))]
 fn near_of(octets: &[u8]) -> Option<Event<'static>>
     ensures { result ≡ near_of octets.now }
 {
@@ -68,7 +69,7 @@ fn near_of(octets: &[u8]) -> Option<Event<'static>>
 }
 
 /// `counter <n> <value>`
-#[tactic(auto, unfolding(crate::specs::Readings::counter_of))]
+#[tactic(auto, unfolding(crate::specs::LineReader::counter_of))]
 fn counter_of(octets: &[u8]) -> Option<Event<'static>>
     ensures { result ≡ counter_of octets.now }
 {
@@ -79,7 +80,7 @@ fn counter_of(octets: &[u8]) -> Option<Event<'static>>
 }
 
 /// `number <n> <value>`
-#[tactic(auto, unfolding(crate::specs::Readings::number_of))]
+#[tactic(auto, unfolding(crate::specs::LineReader::number_of))]
 fn number_of(octets: &[u8]) -> Option<Event<'static>>
     ensures { result ≡ number_of octets.now }
 {
@@ -90,7 +91,7 @@ fn number_of(octets: &[u8]) -> Option<Event<'static>>
 }
 
 /// `allow <n>`
-#[tactic(auto, unfolding(crate::specs::Readings::allow_of))]
+#[tactic(auto, unfolding(crate::specs::LineReader::allow_of))]
 fn allow_of(octets: &[u8]) -> Option<Event<'static>>
     ensures { result ≡ allow_of octets.now }
 {
@@ -99,18 +100,18 @@ fn allow_of(octets: &[u8]) -> Option<Event<'static>>
 }
 
 /// `rand <n> <value>`
-#[tactic(auto, unfolding(crate::specs::Readings::rand_of))]
+#[tactic(auto, unfolding(crate::specs::LineReader::rand_of))]
 fn rand_of(octets: &[u8]) -> Option<Event<'static>>
     ensures { result ≡ rand_of octets.now }
 {
     let (word, rest) = field(octets)?;
     let node = number(word)?;
-    let value = Rand(sixteen_octets(rest)?);
-    Some(Event::Rand { node, value })
+    let value = RandomOctets(sixteen_octets(rest)?);
+    Some(Event::RandomOctets { node, value })
 }
 
 /// `join <n> <agent>`
-#[tactic(auto, unfolding(crate::specs::Readings::join_of))]
+#[tactic(auto, unfolding(crate::specs::LineReader::join_of))]
 fn join_of(octets: &[u8]) -> Option<Event<'static>>
     ensures { result ≡ join_of octets.now }
 {
@@ -121,7 +122,7 @@ fn join_of(octets: &[u8]) -> Option<Event<'static>>
 }
 
 /// `leave <n>`
-#[tactic(auto, unfolding(crate::specs::Readings::leave_of))]
+#[tactic(auto, unfolding(crate::specs::LineReader::leave_of))]
 fn leave_of(octets: &[u8]) -> Option<Event<'static>>
     ensures { result ≡ leave_of octets.now }
 {
@@ -130,7 +131,7 @@ fn leave_of(octets: &[u8]) -> Option<Event<'static>>
 }
 
 /// `send <from> <to> <hex>`
-#[tactic(auto, unfolding(crate::specs::Readings::send_of))]
+#[tactic(auto, unfolding(crate::specs::LineReader::send_of))]
 fn send_of<'a>(octets: &[u8], space: &'a mut [u8]) -> Option<Event<'a>>
     requires { length space.old ≡ LINE_OCTETS }
     ensures { result ≡ send_of octets.now }
@@ -144,7 +145,7 @@ fn send_of<'a>(octets: &[u8], space: &'a mut [u8]) -> Option<Event<'a>>
 }
 
 /// `deliver <flight> <n> <cost>`
-#[tactic(auto, unfolding(crate::specs::Readings::deliver_of))]
+#[tactic(auto, unfolding(crate::specs::LineReader::deliver_of))]
 fn deliver_of(octets: &[u8]) -> Option<Event<'static>>
     ensures { result ≡ deliver_of octets.now }
 {
@@ -157,7 +158,7 @@ fn deliver_of(octets: &[u8]) -> Option<Event<'static>>
 }
 
 /// `inject <n> <cost> <hex>`
-#[tactic(auto, unfolding(crate::specs::Readings::inject_of))]
+#[tactic(auto, unfolding(crate::specs::LineReader::inject_of))]
 fn inject_of<'a>(octets: &[u8], space: &'a mut [u8]) -> Option<Event<'a>>
     requires { length space.old ≡ LINE_OCTETS }
     ensures { result ≡ inject_of octets.now }
@@ -171,7 +172,7 @@ fn inject_of<'a>(octets: &[u8], space: &'a mut [u8]) -> Option<Event<'a>>
 }
 
 /// `lose <flight>`
-#[tactic(auto, unfolding(crate::specs::Readings::lose_of))]
+#[tactic(auto, unfolding(crate::specs::LineReader::lose_of))]
 fn lose_of(octets: &[u8]) -> Option<Event<'static>>
     ensures { result ≡ lose_of octets.now }
 {
@@ -180,7 +181,7 @@ fn lose_of(octets: &[u8]) -> Option<Event<'static>>
 }
 
 /// `break <a> <b>`
-#[tactic(auto, unfolding(crate::specs::Readings::break_of))]
+#[tactic(auto, unfolding(crate::specs::LineReader::break_of))]
 fn break_of(octets: &[u8]) -> Option<Event<'static>>
     ensures { result ≡ break_of octets.now }
 {
@@ -191,7 +192,7 @@ fn break_of(octets: &[u8]) -> Option<Event<'static>>
 }
 
 /// `tick <seconds>`
-#[tactic(auto, unfolding(crate::specs::Readings::tick_of))]
+#[tactic(auto, unfolding(crate::specs::LineReader::tick_of))]
 fn tick_of(octets: &[u8]) -> Option<Event<'static>>
     ensures { result ≡ tick_of octets.now }
 {
@@ -200,7 +201,7 @@ fn tick_of(octets: &[u8]) -> Option<Event<'static>>
 }
 
 /// `restart <n>`
-#[tactic(auto, unfolding(crate::specs::Readings::restart_of))]
+#[tactic(auto, unfolding(crate::specs::LineReader::restart_of))]
 fn restart_of(octets: &[u8]) -> Option<Event<'static>>
     ensures { result ≡ restart_of octets.now }
 {
@@ -209,7 +210,7 @@ fn restart_of(octets: &[u8]) -> Option<Event<'static>>
 }
 
 /// `cut <n> <k> <old or new>`
-#[tactic(auto, unfolding(crate::specs::Readings::cut_of))]
+#[tactic(auto, unfolding(crate::specs::LineReader::cut_of))]
 fn cut_of(octets: &[u8]) -> Option<Event<'static>>
     ensures { result ≡ cut_of octets.now }
 {
@@ -226,7 +227,7 @@ fn cut_of(octets: &[u8]) -> Option<Event<'static>>
 }
 
 /// `rekey <index> <key>`
-#[tactic(auto, unfolding(crate::specs::Readings::rekey_of))]
+#[tactic(auto, unfolding(crate::specs::LineReader::rekey_of))]
 fn rekey_of(octets: &[u8]) -> Option<Event<'static>>
     ensures { result ≡ rekey_of octets.now }
 {
@@ -237,7 +238,7 @@ fn rekey_of(octets: &[u8]) -> Option<Event<'static>>
 }
 
 /// `challenge <n>`
-#[tactic(auto, unfolding(crate::specs::Readings::challenge_of))]
+#[tactic(auto, unfolding(crate::specs::LineReader::challenge_of))]
 fn challenge_of(octets: &[u8]) -> Option<Event<'static>>
     ensures { result ≡ challenge_of octets.now }
 {
@@ -246,7 +247,7 @@ fn challenge_of(octets: &[u8]) -> Option<Event<'static>>
 }
 
 /// `activate <n> <index>`
-#[tactic(auto, unfolding(crate::specs::Readings::activate_of))]
+#[tactic(auto, unfolding(crate::specs::LineReader::activate_of))]
 fn activate_of(octets: &[u8]) -> Option<Event<'static>>
     ensures { result ≡ activate_of octets.now }
 {
@@ -257,7 +258,7 @@ fn activate_of(octets: &[u8]) -> Option<Event<'static>>
 }
 
 /// `kick <n>`
-#[tactic(auto, unfolding(crate::specs::Readings::kick_of))]
+#[tactic(auto, unfolding(crate::specs::LineReader::kick_of))]
 fn kick_of(octets: &[u8]) -> Option<Event<'static>>
     ensures { result ≡ kick_of octets.now }
 {
@@ -266,7 +267,7 @@ fn kick_of(octets: &[u8]) -> Option<Event<'static>>
 }
 
 /// `show <n>`
-#[tactic(auto, unfolding(crate::specs::Readings::show_of))]
+#[tactic(auto, unfolding(crate::specs::LineReader::show_of))]
 fn show_of(octets: &[u8]) -> Option<Event<'static>>
     ensures { result ≡ show_of octets.now }
 {
@@ -275,7 +276,7 @@ fn show_of(octets: &[u8]) -> Option<Event<'static>>
 }
 
 /// `bcast <n> <hex>`
-#[tactic(auto, unfolding(crate::specs::Readings::bcast_of))]
+#[tactic(auto, unfolding(crate::specs::LineReader::bcast_of))]
 fn bcast_of<'a>(octets: &[u8], space: &'a mut [u8]) -> Option<Event<'a>>
     requires { length space.old ≡ LINE_OCTETS }
     ensures { result ≡ bcast_of octets.now }
@@ -287,7 +288,7 @@ fn bcast_of<'a>(octets: &[u8], space: &'a mut [u8]) -> Option<Event<'a>>
 }
 
 /// `scan <n>`
-#[tactic(auto, unfolding(crate::specs::Readings::scan_of))]
+#[tactic(auto, unfolding(crate::specs::LineReader::scan_of))]
 fn scan_of(octets: &[u8]) -> Option<Event<'static>>
     ensures { result ≡ scan_of octets.now }
 {
@@ -296,7 +297,7 @@ fn scan_of(octets: &[u8]) -> Option<Event<'static>>
 }
 
 /// `choose <n> <k>`
-#[tactic(auto, unfolding(crate::specs::Readings::choose_of))]
+#[tactic(auto, unfolding(crate::specs::LineReader::choose_of))]
 fn choose_of(octets: &[u8]) -> Option<Event<'static>>
     ensures { result ≡ choose_of octets.now }
 {
@@ -307,7 +308,7 @@ fn choose_of(octets: &[u8]) -> Option<Event<'static>>
 }
 
 /// `path <a> <b>`
-#[tactic(auto, unfolding(crate::specs::Readings::path_of))]
+#[tactic(auto, unfolding(crate::specs::LineReader::path_of))]
 fn path_of(octets: &[u8]) -> Option<Event<'static>>
     ensures { result ≡ path_of octets.now }
 {
@@ -318,7 +319,7 @@ fn path_of(octets: &[u8]) -> Option<Event<'static>>
 }
 
 /// The event of a kind, by the words after the first.
-#[tactic(auto, unfolding(crate::specs::Readings::event_by))]
+#[tactic(auto, unfolding(crate::specs::LineReader::event_by))]
 fn event_by<'a>(kind: EventKind, rest: &[u8], space: &'a mut [u8]) -> Option<Event<'a>>
     requires { length space.old ≡ LINE_OCTETS }
     ensures { result ≡ event_by kind rest.now }
@@ -331,7 +332,7 @@ fn event_by<'a>(kind: EventKind, rest: &[u8], space: &'a mut [u8]) -> Option<Eve
         EventKind::Counter => counter_of(rest),
         EventKind::Number => number_of(rest),
         EventKind::Allow => allow_of(rest),
-        EventKind::Rand => rand_of(rest),
+        EventKind::RandomOctets => rand_of(rest),
         EventKind::Join => join_of(rest),
         EventKind::Leave => leave_of(rest),
         EventKind::Send => send_of(rest, space),
@@ -357,7 +358,7 @@ fn event_by<'a>(kind: EventKind, rest: &[u8], space: &'a mut [u8]) -> Option<Eve
 }
 
 /// The event of a line of one word.
-#[tactic(auto, unfolding(crate::specs::Readings::event_alone))]
+#[tactic(auto, unfolding(crate::specs::LineReader::event_alone))]
 fn event_alone(octets: &[u8]) -> Option<Event<'static>>
     ensures { result ≡ event_alone octets.now }
 {
@@ -367,7 +368,7 @@ fn event_alone(octets: &[u8]) -> Option<Event<'static>>
     None
 }
 
-#[tactic(auto, unfolding(crate::specs::Readings::event_of))]
+#[tactic(auto, unfolding(crate::specs::LineReader::event_of))]
 fn event_of<'a>(octets: &[u8], space: &'a mut [u8]) -> Option<Event<'a>>
     requires { length space.old ≡ LINE_OCTETS }
     ensures { result ≡ event_of octets.now }
@@ -379,7 +380,7 @@ fn event_of<'a>(octets: &[u8], space: &'a mut [u8]) -> Option<Event<'a>>
     event_by(kind, rest, space)
 }
 
-#[tactic(auto, unfolding(crate::specs::Readings::reading))]
+#[tactic(auto, unfolding(crate::specs::LineReader::reading))]
 fn reading_of<'a>(line: &[u8], space: &'a mut [u8]) -> Reading<'a>
     requires { length space.old ≡ LINE_OCTETS }
     ensures { result ≡ reading line.now }

@@ -10,14 +10,14 @@ use Rattle.line_place.specs.declared.link.Losses.{Losses}
 use Rattle.line_place.specs.declared.link.Costs.{Costs}
 use Rattle.line_place.specs.declared.scattering.Field.{Field}
 use Rattle.line_place.specs.Hops.{AreHops, AllHavePaths}
-use Rattle.line_place.specs.Scattering.{IsFirstTry, drawn_rows, tries_after}
+use Rattle.line_place.specs.ScatteredSpots.{IsFirstTry, drawn_rows, tries_after}
 use Rattle.line_plan.specs.declared.plan.Plan.{Plan}
 use Rattle.plan_tables.specs.declared.places.Kind.{Kind}
 use Rattle.plan_tables.specs.declared.places.Kind.TheVariants.{InStreet, InGrid, InTower, Scattered, Measured}
 use Rattle.plan_tables.specs.declared.places.PlacePlan.{PlacePlan}
 use Rattle.rand_pcg.specs.Lcg.{Lcg}
 use Rattle.line_simulation.specs.Simulations.{Simulated}
-use Rattle.line_simulation.specs.Starting.{IsPlaceOf, AreDepths, depth_of, first_state, IsFirst}
+use Rattle.line_simulation.specs.Start.{IsPlaceOf, AreDepths, depth_of, first_state, IsFirst}
 
 -- # Hops
 

@@ -3,4 +3,4 @@ mod Orders
 pub mod Recordings
 mod Remarks
 pub mod Scripts
-pub mod Writing
+pub mod WrittenScripts

@@ -13,7 +13,7 @@ use Rattle.script_lines.specs.Lines.{Content}
 use Rattle.line_air.specs.Counts.{way_cmp}
 use Rattle.line_rules.specs.Worlds.{World, start}
 use Rattle.line_rules.specs.Runs.{one_of}
-use Rattle.script_runs.specs.Takings.{Taking, Skipped, Taken, Refused, taking}
+use Rattle.script_runs.specs.TakenLines.{Taking, Skipped, Taken, Refused, taking}
 use Rattle.line_sim.specs.Arrivals.{Arrival, arrival_at, IsCausal, InOrder}
 use Rattle.line_sim.specs.Recorders.{last_of, HasCome, MayCome, HasPassed, MayPass, Grows, Follows, AreOrdered}
 use Rattle.line_sim.specs.Scripts.{world_by, world_after, said_by, said}

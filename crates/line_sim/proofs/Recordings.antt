@@ -12,14 +12,14 @@ use Rattle.line_rules.specs.Further.{line_step}
 use Rattle.line_rules.specs.Steps.{Step}
 use Rattle.line_rules.specs.Worlds.{World, Trace}
 use Rattle.line_script.specs.Lines.{line_of}
-use Rattle.line_simulation.specs.Happenings.{facts_of}
+use Rattle.line_simulation.specs.Facts.{facts_of}
 use Rattle.line_simulation.specs.Recorders.{Taken, Refused, Full, Unwritten, RecordsNot, Remarks}
 use Rattle.line_simulation.specs.declared.recording.RecordFault.{RecordFault}
 use Rattle.line_simulation.specs.declared.recording.RecordFault.TheVariants as faults
 use Rattle.line_world.specs.Steps.{Gives}
 use Rattle.line_sim.specs.Recorders.{AppendsLine, Ordered, Recorded}
-use Rattle.line_sim.specs.Recording.{may_take, Turn, May, MayNot, TurnsNot, event_turn, remark_turn, appended, AppendsAs, AppendsNot, fault_of}
-use Rattle.line_sim.specs.Recording.{recorded, turn_answer, line_answer, step_answer, remarked, remark_turned, remark_answer}
+use Rattle.line_sim.specs.WorldRecorder.{may_take, Turn, May, MayNot, TurnsNot, event_turn, remark_turn, appended, AppendsAs, AppendsNot, fault_of}
+use Rattle.line_sim.specs.WorldRecorder.{recorded, turn_answer, line_answer, step_answer, remarked, remark_turned, remark_answer}
 use Rattle.line_sim.specs.Times.{remark_line}
 
 abbrev pub recorder_of : List ℕ → World → Ordered → Recorded

@@ -13,8 +13,8 @@ use Rattle.line_rules.specs.Worlds.{World, Trace, start}
 use Rattle.line_rules.specs.Further.{line_step}
 use Rattle.line_script.specs.Laws.{LinesAreReadBack}
 use Rattle.line_script.specs.Lines.{line_of}
-use Rattle.line_script.specs.Readings.{reading}
-use Rattle.script_runs.specs.Takings.{Taking, Skipped, Taken, Refused, taking}
+use Rattle.line_script.specs.LineReader.{reading}
+use Rattle.script_runs.specs.TakenLines.{Taking, Skipped, Taken, Refused, taking}
 use Rattle.line_sim.specs.Arrivals.{arrival_at, arrival_by, arrivals, IsCausal, InOrder}
 use Rattle.line_sim.specs.Recorders.{IsScriptOf, AppendsLine, AreOrdered, Follows, Grows}
 use Rattle.line_sim.specs.Scripts.{world_by, world_after, contents_of, LeadsTo, is_injection, injects, InjectsNothing, said}

@@ -1,7 +1,7 @@
 pub mod Arrivals
 pub mod Codes
 pub mod Recorders
-pub mod Recording
+pub mod WorldRecorder
 pub mod Scripts
 pub mod Times
 pub mod Simulated

@@ -7,8 +7,8 @@ use Rattle.line_rules.specs.Worlds.{World, start}
 use Rattle.line_rules.specs.Runs.{one_of}
 use Rattle.line_script.specs.declared.reading.Reading.{Reading}
 use Rattle.line_script.specs.declared.reading.Reading.TheVariants.{Quiet, NoForm, Reads}
-use Rattle.line_script.specs.Readings.{reading}
-use Rattle.script_runs.specs.Takings.{Taking, Skipped, Taken, Refused, taking}
+use Rattle.line_script.specs.LineReader.{reading}
+use Rattle.script_runs.specs.TakenLines.{Taking, Skipped, Taken, Refused, taking}
 
 -- # Where a script leads
 

@@ -1,7 +1,7 @@
 -- The script that the simulation of a plan makes.
 use Rattle.std.specs.Prelude.{◌≡◌, ℕ, Bool, List, []}
 use Rattle.line_rules.specs.Worlds.{World, start}
-use Rattle.line_simulation.specs.Turning.{Ran}
+use Rattle.line_simulation.specs.Turns.{Ran}
 use Rattle.line_sim.specs.Recorders.{Recorded, no_order}
 
 -- a recorder of no line

@@ -10,11 +10,11 @@ use Rattle.plan_options.specs.Descriptions.{IsDescribed, IsBad}
 use Rattle.line_rules.specs.Worlds.{World}
 use Rattle.line_simulation.specs.Attackers.{has_attackers}
 use Rattle.line_simulation.specs.Simulations.{Simulated}
-use Rattle.line_simulation.specs.Starting.{IsFirst, IsApart}
-use Rattle.line_simulation.specs.Turning.{Ran, whole_run}
+use Rattle.line_simulation.specs.Start.{IsFirst, IsApart}
+use Rattle.line_simulation.specs.Turns.{Ran, whole_run}
 use Rattle.line_sim.specs.Arrivals.{IsCausal, InOrder, arrivals}
 use Rattle.line_sim.specs.Recorders.{Recorded}
-use Rattle.line_sim.specs.Recording.{world_recorder}
+use Rattle.line_sim.specs.WorldRecorder.{world_recorder}
 use Rattle.line_sim.specs.Scripts.{LeadsTo, InjectsNothing}
 use Rattle.line_sim.specs.Simulated.{new_recorder, IsLeftBy}
 use Rattle.line_sim.specs.Times.{IsUpTo, times}
@@ -38,7 +38,7 @@ pub record IsRun (quiet : Bool) (script : List ℕ) (w : World) : Type 0 where
   pub in_order : AllPairs InOrder (arrivals script)
   pub clock : AllPairs IsUpTo (times script)
 
--- How a run ended that went on to the end of its time, or did not, with so many forged events.
+-- How a run ended that went on to the end of its time, or did not, with this many forged events.
 abbrev pub status_of : Bool → ℕ → Status
 status_of whole forged = if nat_lt 0 forged then status.Forged else (if whole then status.Fine else status.LimitReached)
 

@@ -3,7 +3,7 @@ ghost use Rattle.std.specs.Prelude.{◌≡◌, IsTrue, OnOk, None, Some};
 ghost use Rattle.line_sim.specs.Arrivals.{arrival_by, coming};
 ghost use Rattle.line_sim.specs.Recorders.{Grows, Brings, Follows, last_of};
 ghost use Rattle.line_sim.specs.Recorders.{no_order, ordered_of};
-ghost use Rattle.line_sim.specs.Recording.{brings, event_turn, remark_turn, TurnsAs, turn_of};
+ghost use Rattle.line_sim.specs.WorldRecorder.{brings, event_turn, remark_turn, TurnsAs, turn_of};
 ghost use Rattle.line_sim.specs.Times.{Remarked, is_tick, time_by};
 
 use line_events::Event;

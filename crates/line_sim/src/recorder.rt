@@ -6,7 +6,7 @@ ghost use Rattle.line_script.specs.Lines.{line_of};
 ghost use Rattle.script_lines.specs.Lines.{NoFeed};
 ghost use Rattle.line_sim.specs.Arrivals.{IsCausal, InOrder, arrivals};
 ghost use Rattle.line_sim.specs.Recorders.{AppendsLine, no_order};
-ghost use Rattle.line_sim.specs.Recording.{are_line_octets, is_within, is_said, may_take, has_feed, appended, AppendsAs, fault_of};
+ghost use Rattle.line_sim.specs.WorldRecorder.{are_line_octets, is_within, is_said, may_take, has_feed, appended, AppendsAs, fault_of};
 ghost use Rattle.line_sim.specs.Scripts.{LeadsTo, InjectsNothing, is_injection};
 ghost use Rattle.line_sim.specs.Times.{IsUpTo, times, remark_line};
 
@@ -15,15 +15,15 @@ use line_events::{Event, MAX_EVENTS, StepFault};
 use line_script::{lines_are_read_back, push_line};
 use line_simulation::{Counted, Facts, RecordFault, Recording};
 use line_world::{Buffers, World};
-use plc_base::{Eui, Key, KeyIndex, LinkCost, Rand};
+use plc_base::{Eui, Key, KeyIndex, LinkCost, RandomOctets};
 use script_lines::lines_of_a_script;
 use std::alloc::{AllocError, Global};
 use std::marker::Model;
 
-/// A script has at most so many octets.
+/// A script has at most this many octets.
 pub const MAX_SCRIPT: usize = 67_108_864;
 
-/// A line has at most so many octets, without its line feed.
+/// A line has at most this many octets, without its line feed.
 pub const MAX_LINE: usize = 4_096;
 
 /// The world, and the script of the events that it has taken.
@@ -94,7 +94,7 @@ impl<const INJECTS: usize> Recorder<INJECTS> {
 
 impl<const INJECTS: usize> Recording for Recorder<INJECTS> {
     ghost use Rattle.std.specs.Prelude.{nat_lt};
-    ghost use Rattle.line_sim.specs.Recording.{world_recorder};
+    ghost use Rattle.line_sim.specs.WorldRecorder.{world_recorder};
 
     ghost recorder = { world_recorder (nat_lt 0 INJECTS) };
 
@@ -311,7 +311,7 @@ fn is_key(key: Key) -> bool
     key.0.len() == 16 && are_octets(&key.0)
 }
 
-fn is_rand(value: Rand) -> bool
+fn is_rand(value: RandomOctets) -> bool
     ensures said { IsTrue result → AreOctets 16 value.0 }
     ensures exact { result ≡ true }
 {
@@ -331,7 +331,7 @@ fn is_event(event: &Event<'_>) -> bool
         Event::Counter { node, value } => is_number(*node) && is_number(*value),
         Event::Number { node, value } => is_number(*node) && is_count(*value),
         Event::Allow { node } => is_number(*node),
-        Event::Rand { node, value } => is_number(*node) && is_rand(*value),
+        Event::RandomOctets { node, value } => is_number(*node) && is_rand(*value),
         Event::Join { node, agent } => is_number(*node) && is_number(*agent),
         Event::Leave { node } => is_number(*node),
         Event::Send { from, to, datagram } => {

@@ -1,9 +1,9 @@
 //! All that the program does.
 ghost use Rattle.std.specs.Prelude.{◌≡◌, nat_lt};
 ghost use Rattle.line_simulation.specs.Simulations.{state_of};
-ghost use Rattle.line_simulation.specs.Turning.{Ran, whole_run};
+ghost use Rattle.line_simulation.specs.Turns.{Ran, whole_run};
 ghost use Rattle.line_sim.specs.Recorders.{Recorded};
-ghost use Rattle.line_sim.specs.Recording.{world_recorder};
+ghost use Rattle.line_sim.specs.WorldRecorder.{world_recorder};
 ghost use Rattle.line_sim.specs.Tool.{status_of, EndsRun, Ends, EndsPlan, Runs, Answers, asked_by};
 
 use crate::command::{Mode, command_of};

@@ -1,3 +1,3 @@
 pub mod Loops
-pub mod Placing
+pub mod PlacedNumbers
 pub mod Walks

@@ -9,8 +9,8 @@ use Rattle.line_simulation.specs.declared.work.Stop.TheVariants as stops
 use Rattle.line_simulation.specs.Recorders.{Recorder}
 use Rattle.line_simulation.specs.Runs.{Run, Goes, Stops, then, StopsBy}
 use Rattle.line_simulation.specs.Simulations.{Simulated}
-use Rattle.line_simulation.specs.Stepping.{ticked, tick_of, stepped_now}
-use Rattle.line_simulation.specs.Turning.{on_while, carried_first, with_work, carried_one, carried_on, turn_done, turns_done}
+use Rattle.line_simulation.specs.Steps.{ticked, tick_of, stepped_now}
+use Rattle.line_simulation.specs.Turns.{on_while, carried_first, with_work, carried_one, carried_on, turn_done, turns_done}
 
 pub one_less : (n k : ℕ) → k < n → n - k ≡ suc (n - (k + 1))
 one_less n k less = omega arith
@@ -90,7 +90,7 @@ ticked_stops recorder n k gap step s t stop whole less is e by =
 pub ticked_all : {R : Type 0} (recorder : Recorder R) (n k gap : ℕ) (s : Simulated R) → n ≤ k → ticked recorder (n - k) gap s ≡ Goes tt s
 ticked_all recorder n k gap s all = ap (λ (m : ℕ). ticked recorder m gap s) (none_left n k all) ∙ ticked_zero recorder gap s
 
--- # Work
+-- # PendingWork
 
 -- nothing is to be done
 pub none_carried : {R : Type 0} (recorder : Recorder R) (s t : Simulated R) → s.work ≡ [] → s.work ≡ t.work → t ≡ with_work t.work s

@@ -10,7 +10,7 @@ use Rattle.mac_frames.specs.declared.fault.FrameFaultKind.{FrameFaultKind}
 use Rattle.mac_frames.specs.declared.head.MacHead.{MacHead}
 use Rattle.mac_frames.specs.declared.head.MacHead.TheVariants as heads
 use Rattle.mac_frames.specs.Faults.{frame_fault}
-use Rattle.mac_frames.specs.Reading.{head_in}
+use Rattle.mac_frames.specs.Reader.{head_in}
 use Rattle.line_air.specs.declared.frame.Target.{Target}
 use Rattle.line_air.specs.declared.frame.Target.TheVariants.{All, Node, Nobody}
 use Rattle.line_figures.specs.declared.frames.FrameKind.{FrameKind}
@@ -73,7 +73,7 @@ target_by_number number book =
 unfoldable pub target_by_eui : Eui → Addresses → Target
 target_by_eui eui book = target_by_number (from_be_bytes w64 eui.0) book
 
--- what a sealed frame of so many octets is: a route reply has 30 octets, a route error 26, and no other frame to one node so few
+-- what a sealed frame of this many octets is: a route reply has 30 octets, a route error 26, and no other frame to one node so few
 unfoldable pub kind_of : ℕ → ℕ → FrameKind
 kind_of to octets =
     cond (eqb to 65535) kinds.Request (cond (eqb octets 30) kinds.Reply (cond (eqb octets 26) kinds.Error kinds.Data))

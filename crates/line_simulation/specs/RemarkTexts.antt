@@ -20,7 +20,7 @@ command_text (commands.Coordinator key) = codes "refused"
 command_text (commands.Meter node key) = codes "refused"
 command_text (commands.Depot node) = codes "refused"
 command_text (commands.Allow node) = codes "refused"
-command_text (commands.Rand node least value) = codes "refused"
+command_text (commands.RandomOctets node least value) = codes "refused"
 command_text (commands.Join node agent) = codes "refused"
 command_text (commands.Leave node) = codes "refused"
 command_text (commands.Tell m) = codes "refused node=" ++ (decimal m.node ++ (codes " reading=" ++ decimal m.round))

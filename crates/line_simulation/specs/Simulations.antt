@@ -10,7 +10,7 @@ use Rattle.line_simulation.specs.declared.simulation.Flown.{Flown}
 use Rattle.line_simulation.specs.declared.simulation.Kept.{Kept}
 use Rattle.line_simulation.specs.declared.simulation.Simulation.{Simulation}
 use Rattle.line_simulation.specs.declared.work.Job.{Job}
-use Rattle.line_simulation.specs.declared.work.Work.{Work}
+use Rattle.line_simulation.specs.declared.work.PendingWork.{PendingWork}
 
 -- All that the script of a run follows from. R is what the recorder is: the line of nodes, and the script so far.
 pub record Simulated (R : Type 0) : Type 0 where
@@ -20,8 +20,8 @@ pub record Simulated (R : Type 0) : Type 0 where
   pub owner : OwnerState
   -- what the moments of the calendar mean, by their numbers
   pub jobs : List Job
-  -- what is to be done before the next moment, the next of it first
-  pub work : List Work
+  -- what is to be done before the next moment, in order
+  pub work : List PendingWork
   -- the time, in microseconds
   pub now : ℕ
   pub book : Addresses
@@ -59,5 +59,5 @@ abbrev pub with_sky : {R : Type 0} → Sky → Simulated R → Simulated R
 with_sky sky s = record s { sky = sky }
 
 -- something more is to be done next
-abbrev pub to_do : {R : Type 0} → Work → Simulated R → Simulated R
+abbrev pub to_do : {R : Type 0} → PendingWork → Simulated R → Simulated R
 to_do w s = record s { work = w ∷ s.work }

@@ -4,12 +4,12 @@ ghost use Rattle.std.specs.Option.{option_copied};
 ghost use Rattle.line_air.specs.Turns.{attempt_by};
 ghost use Rattle.line_place.specs.declared.link.Link.{Link as PlaceLink};
 ghost use Rattle.line_place.specs.Rows.{hearers};
-ghost use Rattle.line_simulation.specs.Bringing.{with_air};
-ghost use Rattle.line_simulation.specs.Endings.{flown_at, attempted_by, attempted, event_cost, cost_between, delivered_to, delivered_one, delivered_each};
-ghost use Rattle.line_simulation.specs.Endings.{noticed_at};
-ghost use Rattle.line_simulation.specs.Endings.{with_facts, all_brought, delivered, loss_of, kept_of, heard_so, node_in, reason_of, breaks_to, has_given_up};
-ghost use Rattle.line_simulation.specs.Endings.{ended_by, ending_at, has_ended};
-ghost use Rattle.line_simulation.specs.Endings.{route_broken};
+ghost use Rattle.line_simulation.specs.Effects.{with_air};
+ghost use Rattle.line_simulation.specs.Arrivals.{flown_at, attempted_by, attempted, event_cost, cost_between, delivered_to, delivered_one, delivered_each};
+ghost use Rattle.line_simulation.specs.Arrivals.{noticed_at};
+ghost use Rattle.line_simulation.specs.Arrivals.{with_facts, all_brought, delivered, loss_of, kept_of, heard_so, node_in, reason_of, breaks_to, has_given_up};
+ghost use Rattle.line_simulation.specs.Arrivals.{ended_by, ending_at, has_ended};
+ghost use Rattle.line_simulation.specs.Arrivals.{route_broken};
 ghost use Rattle.line_simulation.specs.Runs.{Ends, answer_of};
 ghost use Rattle.line_simulation.specs.Simulations.{state_of, with_sky};
 
@@ -17,7 +17,7 @@ use crate::facts::Facts;
 use crate::recording::Recording;
 use crate::remarks::Remark;
 use crate::simulation::{Flown, Kept, Simulation};
-use crate::work::{Stop, Work};
+use crate::work::{PendingWork, Stop};
 use line_air::{Attempt, End, Ended, Frame, Hearing, Target};
 use line_events::{Answer, Event};
 use line_figures::{FrameKind, Loss};
@@ -119,7 +119,7 @@ fn kept_of(hearing: Hearing, target: Target, from: u32, flight: u32) -> Option<K
 
 impl<R: Recording> Simulation<R> {
     // What is known of a flight.
-    #[tactic(auto, unfolding(crate::specs::Endings::flown_at, crate::specs::Simulations::state_of))]
+    #[tactic(auto, unfolding(crate::specs::Arrivals::flown_at, crate::specs::Simulations::state_of))]
     fn flown(&self, flight: u32) -> Flown
         ensures { result ≡ flown_at flight (state_of self.now).flown }
     {
@@ -179,7 +179,7 @@ impl<R: Recording> Simulation<R> {
     }
 
     /// The attempt of a node is due.
-    #[tactic(auto, unfolding(crate::specs::Endings::attempted))]
+    #[tactic(auto, unfolding(crate::specs::Arrivals::attempted))]
     pub fn attempt(&mut self, node: u32) -> Result<(), Stop>
         ensures { Ends result (attempted R.recorder node (state_of self.old)) (state_of self.new) }
     {
@@ -188,7 +188,7 @@ impl<R: Recording> Simulation<R> {
     }
 
     /// What a frame of a node costs at another, 1 where it is not heard there.
-    #[tactic(auto, unfolding(crate::specs::Endings::cost_between, crate::specs::Simulations::state_of))]
+    #[tactic(auto, unfolding(crate::specs::Arrivals::cost_between, crate::specs::Simulations::state_of))]
     pub fn cost(&self, from: u32, to: u32) -> u8
         ensures { result ≡ cost_between (state_of self.now).sky.air.rows from to }
     {
@@ -231,11 +231,11 @@ impl<R: Recording> Simulation<R> {
     }
 
     /// The frame of a node ends.
-    #[tactic(auto, unfolding(crate::specs::Endings::has_ended))]
+    #[tactic(auto, unfolding(crate::specs::Arrivals::has_ended))]
     pub fn end_frame(&mut self, node: u32, flight: u32, segments: u32) -> Result<(), Stop>
         ensures { Ends result (has_ended R.recorder node flight segments (state_of self.old)) (state_of self.new) }
     {
-        self.push(Work::GoOn(node))?;
+        self.push(PendingWork::GoOn(node))?;
         self.count_end(node);
         let mut came = Vec::new(self.alloc);
         let ended = self.end_on_air(node, flight, segments, &mut came)?;
@@ -278,7 +278,7 @@ impl<R: Recording> Simulation<R> {
     }
 
     // How the target of a frame heard it. An attacker keeps what it withheld.
-    #[tactic(auto, unfolding(crate::specs::Endings::heard_so, crate::specs::Simulations::state_of))]
+    #[tactic(auto, unfolding(crate::specs::Arrivals::heard_so, crate::specs::Simulations::state_of))]
     fn heard(&mut self, node: u32, frame: Frame, hearing: Hearing) -> Result<(), AllocError>
         ensures { OnOk result (state_of self.new ≡ heard_so node frame hearing (state_of self.old)) }
     {
@@ -308,13 +308,13 @@ impl<R: Recording> Simulation<R> {
             return Ok(());
         }
         match to {
-            Some(to) => self.push(Work::Break(from, to)),
+            Some(to) => self.push(PendingWork::Break(from, to)),
             None => Ok(()),
         }
     }
 
     // A frame to one node is not sent again.
-    #[tactic(auto, unfolding(crate::specs::Endings::has_given_up))]
+    #[tactic(auto, unfolding(crate::specs::Arrivals::has_given_up))]
     fn give_up(
         &mut self,
         node: u32,
@@ -384,7 +384,7 @@ impl<R: Recording> Simulation<R> {
     }
 
     // A flight comes to the nodes that it came to; then what each brought is taken up.
-    #[tactic(auto, unfolding(crate::specs::Endings::delivered))]
+    #[tactic(auto, unfolding(crate::specs::Arrivals::delivered))]
     fn deliver(&mut self, from: u32, flight: u32, came: &[u32]) -> Result<(), Stop>
         ensures { Ends result (delivered R.recorder from flight came.now (state_of self.old)) (state_of self.new) }
     {
@@ -404,9 +404,9 @@ impl<R: Recording> Simulation<R> {
     fn take_one(&mut self, one: Brought, hops: u32) -> Result<(), AllocError>
         ensures { OnOk result (state_of self.new ≡ with_facts hops one (state_of self.old)) }
     {
-        self.push(Work::Facts(one.facts, hops))?;
+        self.push(PendingWork::Facts(one.facts, hops))?;
         match noticed_at(one.node, one.facts.answer) {
-            Some(notice) => self.push(Work::Notice(notice)),
+            Some(notice) => self.push(PendingWork::Notice(notice)),
             None => Ok(()),
         }
     }

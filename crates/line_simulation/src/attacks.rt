@@ -1,21 +1,21 @@
 //! What attackers do.
 ghost use Rattle.std.specs.Prelude.{◌≡◌, IfOk, OnOk, Some, None};
 ghost use Rattle.line_events.specs.declared.event.Event.TheVariants as events;
-ghost use Rattle.line_simulation.specs.Attacking.{flight_injected, drawn_flight, flight_drawn, replayed, with_release, with_releases, kept_count};
-ghost use Rattle.line_simulation.specs.Attacking.{kept_from_others};
-ghost use Rattle.line_simulation.specs.Attacking.{without_kept, released, join_octets, is_challenged, challenged_if, if_found, join_forged};
-ghost use Rattle.line_simulation.specs.declared.work.Work.TheVariants as works;
-ghost use Rattle.line_simulation.specs.Endings.{event_cost};
+ghost use Rattle.line_simulation.specs.Attacks.{flight_injected, drawn_flight, flight_drawn, replayed, with_release, with_releases, kept_count};
+ghost use Rattle.line_simulation.specs.Attacks.{kept_from_others};
+ghost use Rattle.line_simulation.specs.Attacks.{without_kept, released, join_octets, is_challenged, challenged_if, if_found, join_forged};
+ghost use Rattle.line_simulation.specs.declared.work.PendingWork.TheVariants as works;
+ghost use Rattle.line_simulation.specs.Arrivals.{event_cost};
 ghost use Rattle.line_simulation.specs.Runs.{Ends};
 ghost use Rattle.line_simulation.specs.Simulations.{state_of, to_do};
-ghost use Rattle.line_simulation.specs.Stepping.{stepped, stepped_and_taken};
+ghost use Rattle.line_simulation.specs.Steps.{stepped, stepped_and_taken};
 
 use crate::arrivals::cost_of;
 use crate::facts::Facts;
 use crate::recording::Recording;
 use crate::remarks::Remark;
 use crate::simulation::{Kept, Simulation};
-use crate::work::{Stop, Work};
+use crate::work::{PendingWork, Stop};
 use line_events::{Answer, Event};
 use line_members::Notice;
 use plc_base::{Eui, OctetRef};
@@ -28,7 +28,7 @@ const JOIN_HEAD: [u8; 7] = [0x61, 0xd8, 0x00, 0x1d, 0x78, 0x00, 0x00];
 const JOIN_BODY: [u8; 3] = [0x40, 0x02, 0x01];
 
 // A plain frame to the coordinator with a JOIN in the name of a meter.
-#[tactic(auto, unfolding(crate::specs::Attacking::join_octets))]
+#[tactic(auto, unfolding(crate::specs::Attacks::join_octets))]
 fn join_octets(alloc: Global, eui: &Eui) -> Result<Vec<u8>, AllocError>
     ensures { IfOk result (λ octets. octets.items ≡ join_octets eui.now) }
 {
@@ -97,7 +97,7 @@ impl<R: Recording> Simulation<R> {
     }
 
     /// An attacker gives a node a flight, over a link of this cost.
-    #[tactic(auto, unfolding(crate::specs::Attacking::flight_injected))]
+    #[tactic(auto, unfolding(crate::specs::Attacks::flight_injected))]
     pub fn inject_flight(&mut self, node: u32, cost: u8, flight: u32) -> Result<(), Stop>
         ensures { Ends result (flight_injected R.recorder node cost flight (state_of self.old)) (state_of self.new) }
     {
@@ -118,8 +118,8 @@ impl<R: Recording> Simulation<R> {
         self.attack.below(flights).saturating_add(1)
     }
 
-    /// An attacker gives a node a frame that it heard, and then so many less one.
-    #[tactic(auto, unfolding(crate::specs::Attacking::replayed))]
+    /// An attacker gives a node a frame that it heard, and then this many less one.
+    #[tactic(auto, unfolding(crate::specs::Attacks::replayed))]
     pub fn replay(&mut self, node: u32, count: u32) -> Result<(), Stop>
         ensures { Ends result (replayed R.recorder node count (state_of self.old)) (state_of self.new) }
     {
@@ -127,7 +127,7 @@ impl<R: Recording> Simulation<R> {
             return Ok(());
         }
         let flight = self.draw_flight();
-        self.push(Work::Replay(node, count - 1))?;
+        self.push(PendingWork::Replay(node, count - 1))?;
         self.inject_flight(node, 1, flight)
     }
 
@@ -139,7 +139,7 @@ impl<R: Recording> Simulation<R> {
             return Ok(());
         }
         let cost = self.cost(kept.from, node);
-        self.push(Work::Inject(node, cost, kept.flight))
+        self.push(PendingWork::Inject(node, cost, kept.flight))
     }
 
     // What was kept from a node is given to it next, in its order.
@@ -170,7 +170,7 @@ impl<R: Recording> Simulation<R> {
     }
 
     /// An attacker gives a node what it kept from it.
-    #[tactic(auto, unfolding(crate::specs::Attacking::released))]
+    #[tactic(auto, unfolding(crate::specs::Attacks::released))]
     pub fn release(&mut self, node: u32) -> Result<(), Stop>
         ensures { Ends result (released R.recorder node (state_of self.old)) (state_of self.new) }
     {
@@ -202,14 +202,14 @@ impl<R: Recording> Simulation<R> {
         ensures { OnOk result (state_of self.new ≡ to_do (works.Facts facts 0) (challenged_if (is_challenged facts.answer) (state_of self.old))) }
     {
         if is_challenged(facts.answer) {
-            self.push(Work::Notice(Notice::Challenged))?;
-            return self.push(Work::Facts(facts, 0));
+            self.push(PendingWork::Notice(Notice::Challenged))?;
+            return self.push(PendingWork::Facts(facts, 0));
         }
-        self.push(Work::Facts(facts, 0))
+        self.push(PendingWork::Facts(facts, 0))
     }
 
     /// An attacker asks to join in the name of a meter.
-    #[tactic(auto, unfolding(crate::specs::Attacking::join_forged))]
+    #[tactic(auto, unfolding(crate::specs::Attacks::join_forged))]
     pub fn false_join(&mut self, node: u32) -> Result<(), Stop>
         ensures { Ends result (join_forged R.recorder node (state_of self.old)) (state_of self.new) }
     {

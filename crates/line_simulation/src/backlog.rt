@@ -1,8 +1,8 @@
 //! What is to be done before the next moment of the calendar, as a stack.
 ghost use Rattle.std.specs.Prelude.{◌≡◌, ◌∷◌, [], List, None, OnOk, Option, Some};
-ghost use Rattle.line_simulation.specs.declared.work.Work.{Work as WorkItem};
+ghost use Rattle.line_simulation.specs.declared.work.PendingWork.{PendingWork as WorkItem};
 
-use crate::work::Work;
+use crate::work::PendingWork;
 use std::alloc::{AllocError, Global};
 use std::marker::Model;
 
@@ -10,14 +10,14 @@ use std::marker::Model;
 #[derive(Drop)]
 pub struct Backlog {
     // What comes next stands last.
-    work: Vec<Work>,
+    work: Vec<PendingWork>,
 }
 
 impl Model for Backlog {
     ghost use Rattle.std.specs.Prelude.{List, reverse};
-    ghost use Rattle.line_simulation.specs.declared.work.Work.{Work};
+    ghost use Rattle.line_simulation.specs.declared.work.PendingWork.{PendingWork};
 
-    ghost Value = { List Work };
+    ghost Value = { List PendingWork };
 
     ghost view = { λ b. reverse b.work.items };
 }
@@ -33,7 +33,7 @@ impl Backlog {
     }
 
     /// Something is to be done next, before all else.
-    pub fn push(&mut self, work: Work) -> Result<(), AllocError>
+    pub fn push(&mut self, work: PendingWork) -> Result<(), AllocError>
         ensures { OnOk result (self.new ≡ work ∷ self.old) }
     {
         self.work.push(work)?;
@@ -41,7 +41,7 @@ impl Backlog {
     }
 
     /// Takes out what comes next.
-    pub fn pop(&mut self) -> Option<Work>
+    pub fn pop(&mut self) -> Option<PendingWork>
         ensures first { self.old ≡ elim result as (λ _. List WorkItem) [ None ↦ self.new | Some w ↦ w ∷ self.new ] }
         ensures none { result ≡ None → self.old ≡ [] }
     {

@@ -1,10 +1,10 @@
 //! What events bring: flights, what came up, addresses, what the owner notices.
 ghost use Rattle.std.specs.Prelude.{◌≡◌, IfOk, OnOk};
 ghost use Rattle.line_owner.specs.Turns.{noticed};
-ghost use Rattle.line_simulation.specs.declared.work.Work.TheVariants as works;
-ghost use Rattle.line_simulation.specs.Bringing.{with_acts, with_done, with_took, with_grant, with_came, with_flights, hops_after, taken_up};
-ghost use Rattle.line_simulation.specs.Bringing.{is_data, is_plain, flown_as, frame_of, flown_by, outline_if, flew, came_up, with_air, air_noticing, turned};
-ghost use Rattle.line_simulation.specs.Bringing.{has_noticed, answered_so, tries_more, with_try, has_tried, tries_at, task_turned, has_turned};
+ghost use Rattle.line_simulation.specs.declared.work.PendingWork.TheVariants as works;
+ghost use Rattle.line_simulation.specs.Effects.{with_acts, with_done, with_took, with_grant, with_came, with_flights, hops_after, taken_up};
+ghost use Rattle.line_simulation.specs.Effects.{is_data, is_plain, flown_as, frame_of, flown_by, outline_if, flew, came_up, with_air, air_noticing, turned};
+ghost use Rattle.line_simulation.specs.Effects.{has_noticed, answered_so, tries_more, with_try, has_tried, tries_at, task_turned, has_turned};
 ghost use Rattle.line_simulation.specs.Runs.{Ends};
 ghost use Rattle.line_simulation.specs.Simulations.{state_of, to_do};
 
@@ -13,7 +13,7 @@ use crate::facts::{Came, Facts, Granted};
 use crate::recording::Recording;
 use crate::remarks::Remark;
 use crate::simulation::{Flown, Simulation};
-use crate::work::{Stop, Work};
+use crate::work::{PendingWork, Stop};
 use line_air::Frame;
 use line_events::Answer;
 use line_figures::FrameKind;
@@ -22,7 +22,7 @@ use plan_tables::Way;
 use std::alloc::AllocError;
 
 // How many hops the flights of an event have behind them: what is relayed goes on.
-#[tactic(auto, unfolding(crate::specs::Bringing::hops_after))]
+#[tactic(auto, unfolding(crate::specs::Effects::hops_after))]
 fn hops_after(answer: Answer, hops: u32) -> u32
     ensures { result ≡ hops_after answer hops }
 {
@@ -56,7 +56,7 @@ fn is_plain(kind: FrameKind) -> bool
     }
 }
 
-// A flight with what is known of it, after so many hops. A frame that is no data has none, so that a datagram which left with it begins with one.
+// A flight with what is known of it, after this many hops. A frame that is no data has none, so that a datagram which left with it begins with one.
 fn flown_as(outline: Outline, hops: u32) -> Flown
     ensures { result ≡ flown_as outline hops }
 {
@@ -87,7 +87,7 @@ fn frame_of(flight: u32, outline: Outline) -> Frame
 impl<R: Recording> Simulation<R> {
     /// Something is to be done next.
     #[tactic(auto, unfolding(crate::specs::Simulations::state_of))]
-    pub fn push(&mut self, work: Work) -> Result<(), AllocError>
+    pub fn push(&mut self, work: PendingWork) -> Result<(), AllocError>
         ensures { OnOk result (state_of self.new ≡ to_do work (state_of self.old)) }
     {
         self.work.push(work)
@@ -96,7 +96,7 @@ impl<R: Recording> Simulation<R> {
     fn push_act(&mut self, act: Act) -> Result<(), AllocError>
         ensures { OnOk result (state_of self.new ≡ to_do (works.Act act) (state_of self.old)) }
     {
-        self.push(Work::Act(act))
+        self.push(PendingWork::Act(act))
     }
 
     /// Acts are to be done, the first of them next.
@@ -128,7 +128,7 @@ impl<R: Recording> Simulation<R> {
         ensures { OnOk result (state_of self.new ≡ with_done done (state_of self.old)) }
     {
         match done {
-            Some(node) => self.push(Work::Notice(Notice::Done(node))),
+            Some(node) => self.push(PendingWork::Notice(Notice::Done(node))),
             None => Ok(()),
         }
     }
@@ -137,7 +137,7 @@ impl<R: Recording> Simulation<R> {
         ensures { OnOk result (state_of self.new ≡ with_took took (state_of self.old)) }
     {
         match took {
-            Some(node) => self.push(Work::Notice(Notice::Took(node))),
+            Some(node) => self.push(PendingWork::Notice(Notice::Took(node))),
             None => Ok(()),
         }
     }
@@ -156,25 +156,25 @@ impl<R: Recording> Simulation<R> {
         ensures { OnOk result (state_of self.new ≡ with_came came hops (state_of self.old)) }
     {
         match came {
-            Some(came) => self.push(Work::Came(came, hops)),
+            Some(came) => self.push(PendingWork::Came(came, hops)),
             None => Ok(()),
         }
     }
 
-    // So many flights from a first one on go to the queues of their senders next, in their order.
+    // This many flights from a first one on go to the queues of their senders next, in their order.
     fn push_flights(&mut self, first: u32, count: u32, hops: u32) -> Result<(), AllocError>
         ensures { OnOk result (state_of self.new ≡ with_flights first count hops (state_of self.old)) }
     {
         for nth in 0..count {
             let flight = first.saturating_add(count - 1 - nth);
-            self.push(Work::Fly(flight, hops))?;
+            self.push(PendingWork::Fly(flight, hops))?;
         }
         Ok(())
     }
 
     /// Takes up what an event brought: first the flights, so that the next frames of their sender wait behind them; then what came up, an address, a grant, and
     /// a joining that is done.
-    #[tactic(auto, unfolding(crate::specs::Bringing::taken_up))]
+    #[tactic(auto, unfolding(crate::specs::Effects::taken_up))]
     pub fn take_up(&mut self, facts: Facts, hops: u32) -> Result<(), AllocError>
         ensures { OnOk result (state_of self.new ≡ taken_up facts hops (state_of self.old)) }
     {
@@ -187,7 +187,7 @@ impl<R: Recording> Simulation<R> {
     }
 
     // A flight goes to the queue of a node.
-    #[tactic(auto, unfolding(crate::specs::Bringing::flown_by, crate::specs::Simulations::state_of))]
+    #[tactic(auto, unfolding(crate::specs::Effects::flown_by, crate::specs::Simulations::state_of))]
     fn queue(
         &mut self,
         flight: u32,
@@ -221,7 +221,7 @@ impl<R: Recording> Simulation<R> {
     }
 
     /// A flight goes to the queue of its sender.
-    #[tactic(auto, unfolding(crate::specs::Bringing::flew))]
+    #[tactic(auto, unfolding(crate::specs::Effects::flew))]
     pub fn fly(&mut self, flight: u32, hops: u32) -> Result<(), AllocError>
         ensures { OnOk result (state_of self.new ≡ flew R.recorder flight hops (state_of self.old)) }
     {
@@ -262,7 +262,7 @@ impl<R: Recording> Simulation<R> {
         ensures { OnOk result (state_of self.new ≡ came_up came (state_of self.old)) }
     {
         self.count_came(came, hops)?;
-        self.push(Work::Notice(Notice::Came(came.node, came.message)))
+        self.push(PendingWork::Notice(Notice::Came(came.node, came.message)))
     }
 
     // What a notice means for the air; it is counted.
@@ -298,7 +298,7 @@ impl<R: Recording> Simulation<R> {
     }
 
     /// The owner notices what a frame brought.
-    #[tactic(auto, unfolding(crate::specs::Bringing::has_noticed))]
+    #[tactic(auto, unfolding(crate::specs::Effects::has_noticed))]
     pub fn notice(&mut self, notice: Notice) -> Result<(), AllocError>
         ensures { OnOk result (state_of self.new ≡ has_noticed notice (state_of self.old)) }
     {
@@ -329,7 +329,7 @@ impl<R: Recording> Simulation<R> {
     }
 
     /// A reading was tried.
-    #[tactic(auto, unfolding(crate::specs::Bringing::has_tried))]
+    #[tactic(auto, unfolding(crate::specs::Effects::has_tried))]
     pub fn note_try(&mut self, node: u32, round: u32) -> Result<(), Stop>
         ensures { Ends result (has_tried R.recorder node round (state_of self.old)) (state_of self.new) }
     {
@@ -369,7 +369,7 @@ impl<R: Recording> Simulation<R> {
     }
 
     /// A task of the owner's.
-    #[tactic(auto, unfolding(crate::specs::Bringing::has_turned))]
+    #[tactic(auto, unfolding(crate::specs::Effects::has_turned))]
     pub fn task(&mut self, task: Task) -> Result<(), Stop>
         ensures { Ends result (has_turned R.recorder task (state_of self.old)) (state_of self.new) }
     {

@@ -4,30 +4,30 @@ ghost use Rattle.line_air.specs.Ends.{with_node};
 ghost use Rattle.line_air.specs.Nodes.{without_power};
 ghost use Rattle.line_events.specs.declared.event.Event.TheVariants as events;
 ghost use Rattle.line_members.specs.Messages.{message_octets};
-ghost use Rattle.line_simulation.specs.Acting.{job_put, reading_octets, index_of, event_of, told, before_command, air_after, book_after};
-ghost use Rattle.line_simulation.specs.Acting.{after_command};
-ghost use Rattle.line_simulation.specs.Acting.{brought_by, command_stepped, commanded, poll_tried, task_put, queue_length, darkened, acted, told_by};
+ghost use Rattle.line_simulation.specs.OwnerActs.{job_put, reading_octets, index_of, event_of, told, before_command, air_after, book_after};
+ghost use Rattle.line_simulation.specs.OwnerActs.{after_command};
+ghost use Rattle.line_simulation.specs.OwnerActs.{brought_by, command_stepped, commanded, poll_tried, task_put, queue_length, darkened, acted, told_by};
 ghost use Rattle.line_simulation.specs.Books.{eui_of};
-ghost use Rattle.line_simulation.specs.Bringing.{with_air};
+ghost use Rattle.line_simulation.specs.Effects.{with_air};
 ghost use Rattle.line_simulation.specs.Runs.{Ends};
 ghost use Rattle.line_simulation.specs.Simulations.{state_of};
-ghost use Rattle.line_simulation.specs.Stepping.{stepped, remarked};
+ghost use Rattle.line_simulation.specs.Steps.{stepped, remarked};
 ghost use Rattle.line_simulation.specs.declared.remarks.Remark.TheVariants as remarks;
 
 use crate::facts::Facts;
 use crate::recording::Recording;
 use crate::remarks::Remark;
 use crate::simulation::Simulation;
-use crate::work::{Job, Stop, Work};
+use crate::work::{Job, PendingWork, Stop};
 use line_air::Moment;
 use line_events::Event;
 use line_members::{Act, Command, Kind, Message, Outcome, Saying, Task};
-use plc_base::{Eui, Key, KeyIndex, OctetRef, Rand};
+use plc_base::{Eui, Key, KeyIndex, OctetRef, RandomOctets};
 use std::alloc::AllocError;
 
 impl<R: Recording> Simulation<R> {
     /// A job is due at a time.
-    #[tactic(auto, unfolding(crate::specs::Acting::job_put, crate::specs::Simulations::state_of))]
+    #[tactic(auto, unfolding(crate::specs::OwnerActs::job_put, crate::specs::Simulations::state_of))]
     pub fn put(&mut self, at: u64, job: Job) -> Result<(), Stop>
         ensures { Ends result (job_put at job (state_of self.old)) (state_of self.new) }
     {
@@ -41,7 +41,7 @@ impl<R: Recording> Simulation<R> {
     }
 
     /// An act of the owner's.
-    #[tactic(auto, unfolding(crate::specs::Acting::acted))]
+    #[tactic(auto, unfolding(crate::specs::OwnerActs::acted))]
     pub fn act(&mut self, act: Act) -> Result<(), Stop>
         ensures { Ends result (acted R.recorder act (state_of self.old)) (state_of self.new) }
     {
@@ -49,7 +49,7 @@ impl<R: Recording> Simulation<R> {
             Act::Step(command) => self.command(command),
             Act::Put(at, task) => self.put_task(at, task),
             Act::Do(task) => {
-                self.push(Work::Task(task))?;
+                self.push(PendingWork::Task(task))?;
                 Ok(())
             }
             Act::Say(saying) => self.say(saying),
@@ -78,7 +78,7 @@ impl<R: Recording> Simulation<R> {
         }
     }
 
-    #[tactic(auto, unfolding(crate::specs::Acting::task_put))]
+    #[tactic(auto, unfolding(crate::specs::OwnerActs::task_put))]
     fn put_task(&mut self, at: u64, task: Task) -> Result<(), Stop>
         ensures { Ends result (task_put R.recorder at task (state_of self.old)) (state_of self.new) }
     {
@@ -112,7 +112,7 @@ impl<R: Recording> Simulation<R> {
         self.air.fail(node) as u64
     }
 
-    #[tactic(auto, unfolding(crate::specs::Acting::darkened))]
+    #[tactic(auto, unfolding(crate::specs::OwnerActs::darkened))]
     fn darken(&mut self, node: u32, seconds: u64) -> Result<(), Stop>
         ensures { Ends result (darkened R.recorder node seconds (state_of self.old)) (state_of self.new) }
     {
@@ -125,14 +125,14 @@ impl<R: Recording> Simulation<R> {
     }
 
     // A command is stepped, what it brings is taken up, and then the owner goes on.
-    #[tactic(auto, unfolding(crate::specs::Acting::commanded))]
+    #[tactic(auto, unfolding(crate::specs::OwnerActs::commanded))]
     fn command(&mut self, command: Command) -> Result<(), Stop>
         ensures { Ends result (commanded R.recorder command (state_of self.old)) (state_of self.new) }
     {
         self.before(&command);
         self.count_command(&command);
         match self.step_command(&command)? {
-            None => self.push(Work::Answered(command, Outcome::Refused))?,
+            None => self.push(PendingWork::Answered(command, Outcome::Refused))?,
             Some(facts) => self.bring(command, facts)?,
         }
         Ok(())
@@ -143,8 +143,8 @@ impl<R: Recording> Simulation<R> {
         ensures { OnOk result (state_of self.new ≡ brought_by command facts (state_of self.old)) }
     {
         let outcome = facts.outcome();
-        self.push(Work::Answered(command, outcome))?;
-        self.push(Work::Facts(facts, 0))?;
+        self.push(PendingWork::Answered(command, outcome))?;
+        self.push(PendingWork::Facts(facts, 0))?;
         match outcome {
             Outcome::Taken => self.after(&command),
             Outcome::Refused => Ok(()),
@@ -232,7 +232,7 @@ impl<R: Recording> Simulation<R> {
     }
 
     // The event of a command.
-    #[tactic(auto, unfolding(crate::specs::Acting::command_stepped, crate::specs::Acting::event_of))]
+    #[tactic(auto, unfolding(crate::specs::OwnerActs::command_stepped, crate::specs::OwnerActs::event_of))]
     fn step_command(&mut self, command: &Command) -> Result<Option<Facts>, Stop>
         ensures { Ends result (command_stepped R.recorder command.now (state_of self.old)) (state_of self.new) }
     {
@@ -241,9 +241,9 @@ impl<R: Recording> Simulation<R> {
             Command::Meter(node, key) => self.make_meter(*node, *key),
             Command::Depot(node) => self.step("depot", &Event::Depot { node: *node }),
             Command::Allow(node) => self.step("allow", &Event::Allow { node: *node }),
-            Command::Rand(node, _, value) => {
-                let value = Rand(*value);
-                self.step("rand", &Event::Rand { node: *node, value })
+            Command::RandomOctets(node, _, value) => {
+                let value = RandomOctets(*value);
+                self.step("rand", &Event::RandomOctets { node: *node, value })
             }
             Command::Join(node, agent) => self.step(
                 "join",

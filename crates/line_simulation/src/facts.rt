@@ -1,7 +1,7 @@
 //! What an event brought, as plain values.
 ghost use Rattle.std.specs.Prelude.{◌≡◌};
-ghost use Rattle.line_simulation.specs.Bringing.{is_store, outcome_of};
-ghost use Rattle.line_simulation.specs.Happenings.{came_in, granted_in, facts_of};
+ghost use Rattle.line_simulation.specs.Effects.{is_store, outcome_of};
+ghost use Rattle.line_simulation.specs.Facts.{came_in, granted_in, facts_of};
 
 use line_events::{Answer, Happenings};
 use line_members::{Message, Outcome};
@@ -92,7 +92,7 @@ impl Facts {
     }
 
     /// How a command of the owner's ended.
-    #[tactic(auto, unfolding(crate::specs::Bringing::outcome_of))]
+    #[tactic(auto, unfolding(crate::specs::Effects::outcome_of))]
     pub fn outcome(&self) -> Outcome
         ensures { result ≡ outcome_of self.now }
     {

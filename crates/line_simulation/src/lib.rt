@@ -4,8 +4,8 @@
 //! by the models of `line_air` and `line_owner` and the draws of the seed; what they do to the nodes is not: they go to a [`Recording`], which steps the line
 //! and answers what each brought ([`Facts`]). So whatever a recording promises of its line holds of every simulation over it.
 //!
-//! One moment of the calendar is carried out after the other. What a moment leads to at once is a stack of [`Work`]: whatever an act brings is done before
-//! the act that follows it. At most 20,000,000 moments are carried out, and at most as much work for each: a run ends whatever the description says.
+//! One moment of the calendar is carried out after the other. What a moment leads to at once is a stack of [`PendingWork`]: whatever an act brings is done
+//! before the act that follows it. At most 20,000,000 moments are carried out, and at most as much work for each: a run ends whatever the description says.
 #![tactic(auto)]
 
 mod arrivals;
@@ -34,4 +34,4 @@ pub use recording::{Counted, RecordFault, Recording};
 pub use remarks::Remark;
 pub use simulation::{Flown, Kept, Simulation};
 pub use start::{Made, has_attackers};
-pub use work::{Job, Stop, Work};
+pub use work::{Job, PendingWork, Stop};

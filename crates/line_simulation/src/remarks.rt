@@ -4,7 +4,7 @@ ghost use Rattle.line_simulation.specs.RemarkTexts.{loss_word, command_text, say
 ghost use Rattle.line_simulation.specs.RemarkTexts.{title_text};
 ghost use Rattle.line_simulation.specs.Runs.{Ends};
 ghost use Rattle.line_simulation.specs.Simulations.{state_of};
-ghost use Rattle.line_simulation.specs.Stepping.{texted};
+ghost use Rattle.line_simulation.specs.Steps.{texted};
 
 use crate::recording::{RecordFault, Recording};
 use crate::simulation::Simulation;
@@ -43,23 +43,23 @@ pub enum Remark {
         flight: u32,
         node: u32,
     },
-    /// A node has no power for so many seconds, and so many of its frames are gone.
+    /// A node has no power for this many seconds, and this many of its frames are gone.
     Power {
         node: u32,
         seconds: u64,
         frames: u64,
     },
-    /// Nodes hear worse for so many seconds.
+    /// Nodes hear worse for this many seconds.
     Noise {
         seconds: u64,
     },
-    /// Two nodes do not hear each other for so many seconds.
+    /// Two nodes do not hear each other for this many seconds.
     Link {
         one: u32,
         other: u32,
         seconds: u64,
     },
-    /// An attacker gives a node so many frames that it kept.
+    /// An attacker gives a node this many frames that it kept.
     Release {
         node: u32,
         frames: u64,
@@ -193,7 +193,7 @@ fn remark_text(alloc: Global, remark: &Remark) -> Result<String, AllocError>
 
 impl<R: Recording> Simulation<R> {
     // Writes a text with the time.
-    #[tactic(auto, unfolding(crate::specs::Stepping::texted, crate::specs::Simulations::state_of))]
+    #[tactic(auto, unfolding(crate::specs::Steps::texted, crate::specs::Simulations::state_of))]
     fn write_remark(&mut self, text: &str) -> Result<(), Stop>
         ensures { Ends result (texted R.recorder text.now (state_of self.old)) (state_of self.new) }
     {

@@ -2,7 +2,7 @@
 ghost use Rattle.std.specs.Prelude.{◌≡◌, IfOk, map, Some};
 ghost use Rattle.line_place.specs.Rows.{rows_to};
 ghost use Rattle.line_simulation.specs.Attackers.{is_attack, has_attackers};
-ghost use Rattle.line_simulation.specs.Starting.{rate_of, air_settings, owner_settings, nodes_of, IsScattered, IsPlaced, depth_of, AreDepths, IsMade};
+ghost use Rattle.line_simulation.specs.Start.{rate_of, air_settings, owner_settings, nodes_of, IsScattered, IsPlaced, depth_of, AreDepths, IsMade};
 
 use crate::backlog::Backlog;
 use crate::book::Book;

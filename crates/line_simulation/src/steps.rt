@@ -2,19 +2,19 @@
 ghost use Rattle.std.specs.Prelude.{◌≡◌, ◌≤◌, ltb};
 ghost use Rattle.line_simulation.specs.Runs.{Ends};
 ghost use Rattle.line_simulation.specs.Simulations.{state_of};
-ghost use Rattle.line_simulation.specs.Stepping.{stepped_now, tick_of, ticks_of, ticked, behind, on_time, stepped, stepped_and_taken};
+ghost use Rattle.line_simulation.specs.Steps.{stepped_now, tick_of, ticks_of, ticked, behind, on_time, stepped, stepped_and_taken};
 
 use crate::facts::Facts;
 use crate::recording::{RecordFault, Recording};
 use crate::simulation::Simulation;
-use crate::work::{Stop, Work};
+use crate::work::{PendingWork, Stop};
 use line_events::Event;
 use line_script::answer_word;
 
 /// The longest step of the line's clock, in seconds.
 const LONGEST_TICK: u64 = 86_400;
 
-// The longest tick of so many seconds.
+// The longest tick of this many seconds.
 fn tick_of(gap: u64) -> u32
     ensures value { result ≡ tick_of gap }
     ensures bound { result ≤ gap }
@@ -22,7 +22,7 @@ fn tick_of(gap: u64) -> u32
     gap.min(LONGEST_TICK) as u32
 }
 
-// How many ticks so many seconds are.
+// How many ticks this many seconds are.
 fn ticks_of(gap: u64) -> u64
     ensures { result ≡ ticks_of gap }
 {
@@ -34,7 +34,7 @@ fn ticks_of(gap: u64) -> u64
 
 impl<R: Recording> Simulation<R> {
     // Steps an event at the time of the line, and counts how it ended. None where the line does not take it.
-    #[tactic(auto, unfolding(crate::specs::Stepping::stepped_now, crate::specs::Simulations::state_of))]
+    #[tactic(auto, unfolding(crate::specs::Steps::stepped_now, crate::specs::Simulations::state_of))]
     fn step_now(&mut self, word: &'static str, event: &Event<'_>) -> Result<Option<Facts>, Stop>
         ensures { Ends result (stepped_now R.recorder event.now (state_of self.old)) (state_of self.new) }
     {
@@ -57,7 +57,7 @@ impl<R: Recording> Simulation<R> {
         (self.time / 1_000_000).saturating_sub(self.recording.clock())
     }
 
-    // The clock of the line moves on by so many seconds, in so many ticks.
+    // The clock of the line moves on by this many seconds, in this many ticks.
     fn tick(&mut self, ticks: u64, seconds: u64) -> Result<(), Stop>
         ensures { Ends result (ticked R.recorder ticks seconds (state_of self.old)) (state_of self.new) }
     {
@@ -72,7 +72,7 @@ impl<R: Recording> Simulation<R> {
         Ok(())
     }
 
-    // Whether the script has room for so many events.
+    // Whether the script has room for this many events.
     #[tactic(auto, unfolding(crate::specs::Simulations::state_of))]
     fn has_no_room(&self, events: u64) -> bool
         ensures { result ≡ ltb (R.recorder.room (state_of self.now).recorder) events }
@@ -80,8 +80,8 @@ impl<R: Recording> Simulation<R> {
         events > u64::from(self.recording.room())
     }
 
-    /// Brings the clock of the line to the whole second, where so many events follow. Nothing is stepped where not all of them fit.
-    #[tactic(auto, unfolding(crate::specs::Stepping::on_time))]
+    /// Brings the clock of the line to the whole second, where this many events follow. Nothing is stepped where not all of them fit.
+    #[tactic(auto, unfolding(crate::specs::Steps::on_time))]
     pub fn keep_time(&mut self, events: u64) -> Result<(), Stop>
         ensures { Ends result (on_time R.recorder events (state_of self.old)) (state_of self.new) }
     {
@@ -94,7 +94,7 @@ impl<R: Recording> Simulation<R> {
     }
 
     /// Steps an event, after the clock of the line was brought to the time. None where the line does not take it.
-    #[tactic(auto, unfolding(crate::specs::Stepping::stepped))]
+    #[tactic(auto, unfolding(crate::specs::Steps::stepped))]
     pub fn step(&mut self, word: &'static str, event: &Event<'_>) -> Result<Option<Facts>, Stop>
         ensures { Ends result (stepped R.recorder event.now (state_of self.old)) (state_of self.new) }
     {
@@ -114,12 +114,12 @@ impl<R: Recording> Simulation<R> {
     }
 
     /// Steps an event, and takes up what it brings.
-    #[tactic(auto, unfolding(crate::specs::Stepping::stepped_and_taken, crate::specs::Simulations::state_of))]
+    #[tactic(auto, unfolding(crate::specs::Steps::stepped_and_taken, crate::specs::Simulations::state_of))]
     pub fn step_and_take(&mut self, word: &'static str, event: &Event<'_>) -> Result<(), Stop>
         ensures { Ends result (stepped_and_taken R.recorder event.now (state_of self.old)) (state_of self.new) }
     {
         if let Some(facts) = self.step(word, event)? {
-            self.work.push(Work::Facts(facts, 0))?;
+            self.work.push(PendingWork::Facts(facts, 0))?;
         }
         Ok(())
     }

@@ -4,18 +4,18 @@ ghost use Rattle.line_air.specs.Calendars.{first_due, later};
 ghost use Rattle.line_simulation.specs.declared.turns.TheConstants.{MOST_TURNS, MOST_WORK};
 ghost use Rattle.line_simulation.specs.Runs.{Ends};
 ghost use Rattle.line_simulation.specs.Simulations.{state_of};
-ghost use Rattle.line_simulation.specs.Turning.{gone_on, carried_out, work_of, with_work, carried_one, carried_on, job_begun, begun, at_time, moment_done};
-ghost use Rattle.line_simulation.specs.Turning.{is_past, with_due, turn_done, turns_done, time_of, incidents_put, set_up, ran};
+ghost use Rattle.line_simulation.specs.Turns.{gone_on, carried_out, work_of, with_work, carried_one, carried_on, job_begun, begun, at_time, moment_done};
+ghost use Rattle.line_simulation.specs.Turns.{is_past, with_due, turn_done, turns_done, time_of, incidents_put, set_up, ran};
 
 use crate::recording::Recording;
 use crate::simulation::Simulation;
-use crate::work::{Job, Stop, Work};
+use crate::work::{Job, PendingWork, Stop};
 use line_air::{Due, Moment};
 use line_members::{Task, micros};
 use plan_tables::Incident;
 use std::alloc::{AllocError, Global};
 
-/// So many moments of the calendar are carried out at most.
+/// This many moments of the calendar are carried out at most.
 const MOST_TURNS: u32 = 20_000_000;
 
 /// So much work follows from one moment at most.
@@ -42,50 +42,50 @@ impl<R: Recording> Simulation<R> {
     }
 
     // Does one thing.
-    #[tactic(auto, unfolding(crate::specs::Turning::carried_out))]
-    fn carry_out(&mut self, work: Work) -> Result<(), Stop>
+    #[tactic(auto, unfolding(crate::specs::Turns::carried_out))]
+    fn carry_out(&mut self, work: PendingWork) -> Result<(), Stop>
         ensures { Ends result (carried_out R.recorder work (state_of self.old)) (state_of self.new) }
     {
         match work {
-            Work::Act(act) => self.act(act),
-            Work::Task(task) => self.task(task),
-            Work::Answered(command, outcome) => {
+            PendingWork::Act(act) => self.act(act),
+            PendingWork::Task(task) => self.task(task),
+            PendingWork::Answered(command, outcome) => {
                 self.answer(command, outcome)?;
                 Ok(())
             }
-            Work::Notice(notice) => {
+            PendingWork::Notice(notice) => {
                 self.notice(notice)?;
                 Ok(())
             }
-            Work::Facts(facts, hops) => {
+            PendingWork::Facts(facts, hops) => {
                 self.take_up(facts, hops)?;
                 Ok(())
             }
-            Work::Fly(flight, hops) => {
+            PendingWork::Fly(flight, hops) => {
                 self.fly(flight, hops)?;
                 Ok(())
             }
-            Work::Came(came, hops) => {
+            PendingWork::Came(came, hops) => {
                 self.message_came(came, hops)?;
                 Ok(())
             }
-            Work::Break(node, next) => self.break_route(node, next),
-            Work::GoOn(node) => {
+            PendingWork::Break(node, next) => self.break_route(node, next),
+            PendingWork::GoOn(node) => {
                 self.go_on(node)?;
                 Ok(())
             }
-            Work::Tear(node, nth, leaves) => self.tear(node, nth, leaves),
-            Work::Kick(node) => self.kick(node),
-            Work::Replay(node, count) => self.replay(node, count),
-            Work::Release(node) => self.release(node),
-            Work::Inject(node, cost, flight) => self.inject_flight(node, cost, flight),
-            Work::FalseJoin(node) => self.false_join(node),
+            PendingWork::Tear(node, nth, leaves) => self.tear(node, nth, leaves),
+            PendingWork::Kick(node) => self.kick(node),
+            PendingWork::Replay(node, count) => self.replay(node, count),
+            PendingWork::Release(node) => self.release(node),
+            PendingWork::Inject(node, cost, flight) => self.inject_flight(node, cost, flight),
+            PendingWork::FalseJoin(node) => self.false_join(node),
         }
     }
 
     // Takes what is to be done next.
     #[tactic(auto, unfolding(crate::specs::Simulations::state_of))]
-    fn next(&mut self) -> Option<Work>
+    fn next(&mut self) -> Option<PendingWork>
         ensures first { (state_of self.old).work ≡ work_of result (state_of self.new).work }
         ensures none { result ≡ None → (state_of self.old).work ≡ [] }
         ensures rest { state_of self.new ≡ with_work (state_of self.new).work (state_of self.old) }
@@ -94,7 +94,7 @@ impl<R: Recording> Simulation<R> {
     }
 
     // Does the next thing, if there is one.
-    #[tactic(auto, unfolding(crate::specs::Turning::carried_one))]
+    #[tactic(auto, unfolding(crate::specs::Turns::carried_one))]
     fn carry_one(&mut self) -> Result<bool, Stop>
         ensures { Ends result (carried_one R.recorder (state_of self.old)) (state_of self.new) }
     {
@@ -132,12 +132,12 @@ impl<R: Recording> Simulation<R> {
     {
         match job {
             Some(Job::Task(task)) => {
-                self.push(Work::Task(task))?;
+                self.push(PendingWork::Task(task))?;
                 Ok(())
             }
-            Some(Job::Incident(nth)) => self.incident(nth),
+            Some(Job::Incident(nth)) => self.begin_incident(nth),
             Some(Job::Release(node)) => {
-                self.push(Work::Release(node))?;
+                self.push(PendingWork::Release(node))?;
                 Ok(())
             }
             None => Ok(()),
@@ -145,7 +145,7 @@ impl<R: Recording> Simulation<R> {
     }
 
     // A moment comes.
-    #[tactic(auto, unfolding(crate::specs::Turning::begun))]
+    #[tactic(auto, unfolding(crate::specs::Turns::begun))]
     fn begin(&mut self, moment: Moment) -> Result<(), Stop>
         ensures { Ends result (begun R.recorder moment (state_of self.old)) (state_of self.new) }
     {
@@ -172,7 +172,7 @@ impl<R: Recording> Simulation<R> {
     }
 
     // A moment comes, and all that it leads to.
-    #[tactic(auto, unfolding(crate::specs::Turning::moment_done))]
+    #[tactic(auto, unfolding(crate::specs::Turns::moment_done))]
     fn do_moment(&mut self, due: Due) -> Result<(), Stop>
         ensures { Ends result (moment_done R.recorder due (state_of self.old)) (state_of self.new) }
     {
@@ -202,7 +202,7 @@ impl<R: Recording> Simulation<R> {
     }
 
     // The next moment up to a time comes, with all that it leads to. False where there is none.
-    #[tactic(auto, unfolding(crate::specs::Turning::turn_done))]
+    #[tactic(auto, unfolding(crate::specs::Turns::turn_done))]
     fn do_turn(&mut self, end: u64) -> Result<bool, Stop>
         ensures { Ends result (turn_done R.recorder end (state_of self.old)) (state_of self.new) }
     {
@@ -252,18 +252,18 @@ impl<R: Recording> Simulation<R> {
     }
 
     // The nodes are made, and what is to happen is put on the calendar.
-    #[tactic(auto, unfolding(crate::specs::Turning::set_up))]
+    #[tactic(auto, unfolding(crate::specs::Turns::set_up))]
     fn set_up(&mut self) -> Result<(), Stop>
         ensures { Ends result (set_up R.recorder (state_of self.old)) (state_of self.new) }
     {
-        self.push(Work::Task(Task::Make(0)))?;
+        self.push(PendingWork::Task(Task::Make(0)))?;
         self.carry_on()?;
         let times = self.incident_times()?;
         self.put_incidents(times.as_slice())
     }
 
     /// Runs the line up to a time.
-    #[tactic(auto, unfolding(crate::specs::Turning::ran))]
+    #[tactic(auto, unfolding(crate::specs::Turns::ran))]
     pub fn run(&mut self, end: u64) -> Result<(), Stop>
         ensures { Ends result (ran R.recorder end (state_of self.old)) (state_of self.new) }
     {

@@ -3,9 +3,9 @@ ghost use Rattle.std.specs.Prelude.{◌≡◌, ◌-◌, IfOk, OnOk, string_bytes
 ghost use Rattle.line_members.specs.Times.{micros};
 ghost use Rattle.line_simulation.specs.Runs.{Ends};
 ghost use Rattle.line_simulation.specs.Simulations.{state_of};
-ghost use Rattle.line_simulation.specs.Stepping.{texted};
+ghost use Rattle.line_simulation.specs.Steps.{texted};
 ghost use Rattle.line_simulation.specs.RemarkTexts.{title_text};
-ghost use Rattle.line_simulation.specs.Turning.{line_remarked, spare_remarked, headed, ran_from_head, limit_remarked, whole_run};
+ghost use Rattle.line_simulation.specs.Turns.{line_remarked, spare_remarked, headed, ran_from_head, limit_remarked, whole_run};
 
 use crate::recording::Recording;
 use crate::remarks::Remark;
@@ -73,7 +73,7 @@ impl<R: Recording> Simulation<R> {
     }
 
     // The remarks at the head of a script.
-    #[tactic(auto, unfolding(crate::specs::Turning::headed))]
+    #[tactic(auto, unfolding(crate::specs::Turns::headed))]
     fn remark_head(&mut self) -> Result<(), Stop>
         ensures { Ends result (headed R.recorder (state_of self.old)) (state_of self.new) }
     {
@@ -90,7 +90,7 @@ impl<R: Recording> Simulation<R> {
         micros(self.plan.length)
     }
 
-    #[tactic(auto, unfolding(crate::specs::Turning::ran_from_head))]
+    #[tactic(auto, unfolding(crate::specs::Turns::ran_from_head))]
     fn run_from_head(&mut self) -> Result<(), Stop>
         ensures { Ends result (ran_from_head R.recorder (state_of self.old)) (state_of self.new) }
     {
@@ -111,7 +111,7 @@ impl<R: Recording> Simulation<R> {
     }
 
     /// Runs the line to the end of its time. False where the script, or the bound of the moments, ended the run before; a remark then says so.
-    #[tactic(auto, unfolding(crate::specs::Turning::whole_run))]
+    #[tactic(auto, unfolding(crate::specs::Turns::whole_run))]
     pub fn run_whole(&mut self) -> Result<bool, AllocError>
         ensures { IfOk result (λ whole. whole_run R.recorder (state_of self.old) ≡ record { whole = whole; simulated = state_of self.new }) }
     {

@@ -6,7 +6,7 @@ use std::alloc::{AllocError, AllocFailed};
 
 /// What is to be done before the next moment of the calendar.
 #[derive(Clone, Copy, Debug)]
-pub enum Work {
+pub enum PendingWork {
     /// An act of the owner's.
     Act(Act),
     /// A task of the owner's.
@@ -15,11 +15,11 @@ pub enum Work {
     Answered(Command, Outcome),
     /// The owner notices what a frame brought.
     Notice(Notice),
-    /// What an event brought is taken up, where the frame that it took had gone so many hops.
+    /// What an event brought is taken up, where the frame that it took had gone this many hops.
     Facts(Facts, u32),
-    /// A flight goes to the queue of its sender, after so many hops.
+    /// A flight goes to the queue of its sender, after this many hops.
     Fly(u32, u32),
-    /// A message came up at a node, after so many hops.
+    /// A message came up at a node, after this many hops.
     Came(crate::facts::Came, u32),
     /// A node loses the route over a neighbour.
     Break(u32, u32),
@@ -29,11 +29,11 @@ pub enum Work {
     Tear(u32, u16, Leaves),
     /// A meter is shut out.
     Kick(u32),
-    /// An attacker gives a node so many frames that it heard.
+    /// An attacker gives a node this many frames that it heard.
     Replay(u32, u32),
     /// An attacker gives a node what it kept from it.
     Release(u32),
-    /// An attacker gives a node a flight that it kept, which costs so much.
+    /// An attacker gives a node a flight that it kept, which costs this much.
     Inject(u32, u8, u32),
     /// An attacker asks to join in the name of a meter.
     FalseJoin(u32),

@@ -1,13 +1,14 @@
 -- Each event is owned by one story.
 use Rattle.std.proofs.Common.{◌≡◌, ℕ, ◌+◌, ◌-◌, List, [], ◌∷◌, ◌++◌, length, Option, Some, None, refl, ◌∙◌, arith, length-append}
-use Rattle.line_tale.specs.declared.told.TaleEvent.{TaleEvent}
-use Rattle.line_tale.specs.declared.told.TaleFlight.{TaleFlight}
-use Rattle.line_tale.specs.declared.act.Act.{Act}
-use Rattle.line_tale.specs.declared.story.Story.{Story}
-use Rattle.line_tale.specs.Kinds.{joins, readies}
-use Rattle.line_tale.specs.Tales.{made_by}
-use Rattle.line_stories.specs.Stories.{Stories, no_stories, settled_by, settled, next_event, with_line, line_number, unready, number_at, place_of, recorded}
-use Rattle.line_stories.specs.Stories.{announced, event_by, event_seen, flight_seen, flights_seen, kept_seen, told_seen}
+use Rattle.line_record.specs.declared.recorded.RecordedEvent.{RecordedEvent}
+use Rattle.line_record.specs.declared.recorded.RecordedFlight.{RecordedFlight}
+use Rattle.line_record.specs.declared.act.Act.{Act}
+use Rattle.line_record.specs.declared.story.Story.{Story}
+use Rattle.line_record.specs.Kinds.{joins, prepares}
+use Rattle.line_record.specs.RunRecords.{made_by}
+use Rattle.line_stories.specs.Stories.{Stories, no_stories, settled_by, settled, next_event, with_line, line_number, unready, number_at, place_of}
+use Rattle.line_stories.specs.Stories.{stories_after}
+use Rattle.line_stories.specs.Stories.{announced, event_by, event_seen, flight_seen, flights_seen, kept_seen, record_seen}
 use Rattle.line_stories.specs.Stories.{events_seen, ended, stories_of, ready_owners, last_owner}
 use Rattle.line_stories.specs.Laws.{EventsAreOwned}
 
@@ -25,7 +26,7 @@ count_more owners readied ready story is = omega (arith, length-append (owners +
 
 settled_by_count : (stories : List Story) (line : ℕ) (act : Act) (first : ℕ) (s : Stories) → seen (settled_by stories line act first s) ≡ seen s + 1
 settled_by_count stories line act first s =
-    let story = number_at (place_of act stories s.lots) stories in
+    let story = number_at (place_of act stories s.courses) stories in
     count_more s.owners (ready_owners (joins act) story line s.ready) s.ready story (ready_count (joins act) story line s.ready)
 
 pub settled_count : (act : Act) (s : Stories) → seen (settled act s) ≡ seen s + 1
@@ -34,47 +35,47 @@ settled_count act s =
     settled_by_count (with_line (unready (joins act) s.ready) (length s.owners + 1) s.stories) (line_number (unready (joins act) s.ready) s.stories)
     act (next_event s) s
 
-recorded_count : (e : TaleEvent) (n story : ℕ) (s : Stories) → seen (recorded e n story s) ≡ seen s
-unfolding recorded
+recorded_count : (e : RecordedEvent) (n story : ℕ) (s : Stories) → seen (stories_after e n story s) ≡ seen s
+unfolding stories_after
 recorded_count e n story s = refl
 
-kept_count : (e : TaleEvent) (n story : ℕ) (s : Stories) → seen (kept_seen e n story s) ≡ seen s
+kept_count : (e : RecordedEvent) (n story : ℕ) (s : Stories) → seen (kept_seen e n story s) ≡ seen s
 unfolding kept_seen
 kept_count e n story s = refl
 
-announced_count : (e : TaleEvent) (flights : List TaleFlight) (s : Stories) → seen (announced e flights s) ≡ seen s
+announced_count : (e : RecordedEvent) (flights : List RecordedFlight) (s : Stories) → seen (announced e flights s) ≡ seen s
 unfolding announced
 announced_count e flights s = refl
 
-flight_count : (f : TaleFlight) (s : Stories) → seen (flight_seen f s) ≡ seen s
+flight_count : (f : RecordedFlight) (s : Stories) → seen (flight_seen f s) ≡ seen s
 unfolding flight_seen
 flight_count f s = refl
 
-event_count_by : (o : Option ℕ) (e : TaleEvent) (s : Stories) → seen (event_by o e s) ≡ seen s + 1
+event_count_by : (o : Option ℕ) (e : RecordedEvent) (s : Stories) → seen (event_by o e s) ≡ seen s + 1
 event_count_by (Some node) e s = omega (arith, length-append s.ready (node ∷ []))
 event_count_by None e s =
     let n = length (settled e.act s).owners in
     let story = last_owner (settled e.act s).owners in
-    kept_count e n story (recorded e n story (settled e.act s)) ∙ recorded_count e n story (settled e.act s) ∙ settled_count e.act s
+    kept_count e n story (stories_after e n story (settled e.act s)) ∙ recorded_count e n story (settled e.act s) ∙ settled_count e.act s
 
-event_count : (e : TaleEvent) (s : Stories) → seen (event_seen e s) ≡ seen s + 1
+event_count : (e : RecordedEvent) (s : Stories) → seen (event_seen e s) ≡ seen s + 1
 unfolding event_seen
-event_count e s = event_count_by (readies e.act) e s
+event_count e s = event_count_by (prepares e.act) e s
 
-flights_count : (fs : List TaleFlight) (s : Stories) → seen (flights_seen fs s) ≡ seen s
+flights_count : (fs : List RecordedFlight) (s : Stories) → seen (flights_seen fs s) ≡ seen s
 flights_count [] s = refl
 flights_count (f ∷ fs) s = flights_count fs (flight_seen f s) ∙ flight_count f s
 
 -- an event and its flights
-pub one_more : (e : TaleEvent) (flights : List TaleFlight) (s : Stories) → seen (told_seen e flights s) ≡ seen s + 1
-unfolding told_seen
+pub one_more : (e : RecordedEvent) (flights : List RecordedFlight) (s : Stories) → seen (record_seen e flights s) ≡ seen s + 1
+unfolding record_seen
 one_more e flights s =
     flights_count (made_by e flights) (announced e flights (event_seen e s)) ∙ announced_count e flights (event_seen e s) ∙ event_count e s
 
-pub events_count : (flights : List TaleFlight) (es : List TaleEvent) (s : Stories) → seen (events_seen flights es s) ≡ seen s + length es
+pub events_count : (flights : List RecordedFlight) (es : List RecordedEvent) (s : Stories) → seen (events_seen flights es s) ≡ seen s + length es
 events_count flights [] s = omega arith
 events_count flights (e ∷ es) s =
-    let rest = events_count flights es (told_seen e flights s) in
+    let rest = events_count flights es (record_seen e flights s) in
     let one = one_more e flights s in
     omega (arith, rest, one)
 

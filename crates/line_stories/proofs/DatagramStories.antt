@@ -8,32 +8,32 @@ use Rattle.std.proofs.lemmas.Option.{none-some, option_and_then_some, same_Some,
 use Rattle.store_tables.proofs.SlotTables.{slice_get-push}
 use Rattle.line_events.specs.declared.event.Answer.{Answer}
 use Rattle.line_events.specs.declared.event.Answer.TheVariants as answers
-use Rattle.line_tale.specs.declared.act.Act.{Act}
-use Rattle.line_tale.specs.declared.act.Act.TheVariants as acts
-use Rattle.line_tale.specs.declared.told.TaleEvent.{TaleEvent}
-use Rattle.line_tale.specs.declared.told.TaleFlight.{TaleFlight}
-use Rattle.line_tale.specs.declared.ends.Ends.{Ends}
-use Rattle.line_tale.specs.declared.kept.Kept.{Kept}
-use Rattle.line_tale.specs.declared.verdict.Verdict.{Verdict}
-use Rattle.line_tale.specs.declared.verdict.Verdict.TheVariants as verdicts
-use Rattle.line_tale.specs.declared.kind.StoryKind.{StoryKind}
-use Rattle.line_tale.specs.declared.kind.StoryKind.TheVariants as kinds
-use Rattle.line_tale.specs.declared.story.Story.{Story}
-use Rattle.line_tale.specs.Keeping.{end_of, is_still, may_end}
-use Rattle.line_tale.specs.Kinds.{begins, is_sent, joins, person_of, readies, sends}
-use Rattle.line_tale.specs.Lists.{changed_at, changed_place}
-use Rattle.line_tale.specs.Marks.{came, left, marked, marked_by, new_story, or_first, or_kept, with_gathered, with_kept}
-use Rattle.line_tale.specs.Tales.{made_by, numbered}
-use Rattle.line_tale.specs.Verdicts.{is_begun, reached_or, unreached_datagram, verdict_by, verdict_of}
+use Rattle.line_record.specs.declared.act.Act.{Act}
+use Rattle.line_record.specs.declared.act.Act.TheVariants as acts
+use Rattle.line_record.specs.declared.recorded.RecordedEvent.{RecordedEvent}
+use Rattle.line_record.specs.declared.recorded.RecordedFlight.{RecordedFlight}
+use Rattle.line_record.specs.declared.ends.Ends.{Ends}
+use Rattle.line_record.specs.declared.kept.Kept.{Kept}
+use Rattle.line_record.specs.declared.verdict.Verdict.{Verdict}
+use Rattle.line_record.specs.declared.verdict.Verdict.TheVariants as verdicts
+use Rattle.line_record.specs.declared.kind.StoryKind.{StoryKind}
+use Rattle.line_record.specs.declared.kind.StoryKind.TheVariants as kinds
+use Rattle.line_record.specs.declared.story.Story.{Story}
+use Rattle.line_record.specs.KeptItems.{end_of, is_still, may_end}
+use Rattle.line_record.specs.Kinds.{begins, is_sent, joins, person_of, prepares, sends}
+use Rattle.line_record.specs.Lists.{changed_at, changed_place}
+use Rattle.line_record.specs.Marks.{came, left, marked, marked_by, new_story, or_first, or_kept, with_gathered, with_kept}
+use Rattle.line_record.specs.RunRecords.{made_by, numbered}
+use Rattle.line_record.specs.Verdicts.{is_begun, reached_or, unreached_datagram, verdict_by, verdict_of}
 use Rattle.line_stories.specs.declared.place.Place.{Place}
 use Rattle.line_stories.specs.declared.place.Place.TheVariants.{At, New}
-use Rattle.line_stories.specs.Keepings.{ended_so, has_kept, message_about, message_kept, piece_kept, stories_begun, stories_ended, stories_left}
-use Rattle.line_stories.specs.Keepings.{story_ended, waiting_kept}
+use Rattle.line_stories.specs.NodeItems.{ended_so, has_kept, message_about, message_kept, piece_kept, stories_begun, stories_ended, stories_left}
+use Rattle.line_stories.specs.NodeItems.{story_ended, waiting_kept}
 use Rattle.line_stories.proofs.Counts.{events_count, one_more, settled_count}
 use Rattle.line_stories.specs.Laws.{DatagramsAreReached, IsDatagramStory, ReadiesOnly, first_up, is_of, sends_in}
 use Rattle.line_stories.specs.Stories.{Stories, last_owner, line_number, line_place, next_event, number_at, place_by, place_of, ready_owners, settled}
 use Rattle.line_stories.specs.Stories.{unready, with_line, with_place, announced, ended, flight_owner, flight_seen, flights_seen, kept_begun, kept_ended}
-use Rattle.line_stories.specs.Stories.{event_by, event_seen, events_seen, no_stories, recorded, stories_of, told_seen}
+use Rattle.line_stories.specs.Stories.{event_by, event_seen, events_seen, no_stories, stories_after, stories_of, record_seen}
 use Rattle.line_stories.specs.Stories.{kept_seen, may_leave, message_story, piece_begun, sent_with, up_kept, up_marked}
 
 -- # What the story of a datagram says, beside what is kept of it
@@ -130,7 +130,7 @@ changed_length f (suc m) xs = ap length (change_place m f xs) ∙ place_length f
 
 -- # What changes no face
 
-marked_face : (k : StoryKind) (n : ℕ) (e : TaleEvent) (x : Story) → x.kind ≡ k → face (marked_by k n e x) ≡ face x
+marked_face : (k : StoryKind) (n : ℕ) (e : RecordedEvent) (x : Story) → x.kind ≡ k → face (marked_by k n e x) ≡ face x
 marked_face kinds.Joining n e x is =
     ap (λ (k : StoryKind). face_by k x.first (marked_by kinds.Joining n e x).reached) is ∙ sym (ap (λ (k : StoryKind). face_by k x.first x.reached) is)
 marked_face kinds.Renewal n e x is =
@@ -165,12 +165,12 @@ one_ended_face : (b : Bool) (m n : ℕ) (k : Kept) (xs : List Story)
 one_ended_face true m n k xs = refl
 one_ended_face false m n k xs = changed_face (with_kept k) m n xs (kept_face k)
 
-ended_face : (m : ℕ) (e : TaleEvent) (keeping : List Kept) (n : ℕ) (xs : List Story) → face_at n (stories_ended m e keeping xs) ≡ face_at n xs
+ended_face : (m : ℕ) (e : RecordedEvent) (keeping : List Kept) (n : ℕ) (xs : List Story) → face_at n (stories_ended m e keeping xs) ≡ face_at n xs
 ended_face m e [] n xs = refl
 ended_face m e (k ∷ ks) n xs =
     ended_face m e ks n (story_ended m e k xs) ∙ one_ended_face (is_still (end_of m e k)) k.story n (ended_so (end_of m e k) k) xs
 
-may_end_face : (b : Bool) (m : ℕ) (e : TaleEvent) (keeping : List Kept) (n : ℕ) (xs : List Story)
+may_end_face : (b : Bool) (m : ℕ) (e : RecordedEvent) (keeping : List Kept) (n : ℕ) (xs : List Story)
     → face_at n (if b then stories_ended m e keeping xs else xs) ≡ face_at n xs
 may_end_face true m e keeping n xs = ended_face m e keeping n xs
 may_end_face false m e keeping n xs = refl
@@ -201,7 +201,7 @@ lined (Some place) first n xs p is = placed (line_place xs) (first + place) 0 n 
 
 -- # The story of each send is its own
 
--- no two sends have one story, and each story of a send is one of so many
+-- no two sends have one story, and each story of a send is one of this many
 record AreOwn (sent : List ℕ) (count : ℕ) : Type 0 where
   within : (k i : ℕ) → numbered sent k ≡ Some i → i ≤ count
   one : (a b i : ℕ) → numbered sent a ≡ Some i → numbered sent b ≡ Some i → a ≡ b
@@ -210,7 +210,7 @@ record AreOwn (sent : List ℕ) (count : ℕ) : Type 0 where
 record Follows (send event : ℕ) (at_last : Option ℕ) (sent : List ℕ) (stories : List Story) : Type 0 where
   number : ℕ
   owner : numbered sent send ≡ Some number
-  told : face_at number stories ≡ Some (event, at_last)
+  recorded : face_at number stories ≡ Some (event, at_last)
 
 -- the stories are more, and the faces of those that were there are the same
 record GoOn (old new : List Story) : Type 0 where
@@ -249,16 +249,16 @@ one_ended_length : (b : Bool) (m : ℕ) (k : Kept) (xs : List Story) → length 
 one_ended_length true m k xs = refl
 one_ended_length false m k xs = changed_length (with_kept k) m xs
 
-ended_length : (m : ℕ) (e : TaleEvent) (keeping : List Kept) (xs : List Story) → length (stories_ended m e keeping xs) ≡ length xs
+ended_length : (m : ℕ) (e : RecordedEvent) (keeping : List Kept) (xs : List Story) → length (stories_ended m e keeping xs) ≡ length xs
 ended_length m e [] xs = refl
 ended_length m e (k ∷ ks) xs = ended_length m e ks (story_ended m e k xs) ∙ one_ended_length (is_still (end_of m e k)) k.story (ended_so (end_of m e k) k) xs
 
-may_end_length : (b : Bool) (m : ℕ) (e : TaleEvent) (keeping : List Kept) (xs : List Story)
+may_end_length : (b : Bool) (m : ℕ) (e : RecordedEvent) (keeping : List Kept) (xs : List Story)
     → length (if b then stories_ended m e keeping xs else xs) ≡ length xs
 may_end_length true m e keeping xs = ended_length m e keeping xs
 may_end_length false m e keeping xs = refl
 
-may_end_on : (b : Bool) (m : ℕ) (e : TaleEvent) (keeping : List Kept) (xs : List Story) → GoOn xs (if b then stories_ended m e keeping xs else xs)
+may_end_on : (b : Bool) (m : ℕ) (e : RecordedEvent) (keeping : List Kept) (xs : List Story) → GoOn xs (if b then stories_ended m e keeping xs else xs)
 may_end_on b m e keeping xs =
     stay xs (if b then stories_ended m e keeping xs else xs) (may_end_length b m e keeping xs) (λ n. may_end_face b m e keeping n xs)
 
@@ -269,7 +269,7 @@ left_length false m xs = refl
 left_on : (b : Bool) (m : ℕ) (xs : List Story) → GoOn xs (if b then changed_at m left xs else xs)
 left_on b m xs = stay xs (if b then changed_at m left xs else xs) (left_length b m xs) (λ n. left_face b m n xs)
 
-marked_on : (n : ℕ) (e : TaleEvent) (story : ℕ) (xs : List Story) → GoOn xs (changed_at story (marked n e) xs)
+marked_on : (n : ℕ) (e : RecordedEvent) (story : ℕ) (xs : List Story) → GoOn xs (changed_at story (marked n e) xs)
 marked_on n e story xs =
     stay xs (changed_at story (marked n e) xs) (changed_length (marked n e) story xs)
     (λ m. changed_face (marked n e) story m xs (λ x. marked_face x.kind n e x refl))
@@ -287,7 +287,7 @@ follows_on : (send event : ℕ) (at_last : Option ℕ) (sent : List ℕ) (old ne
 follows_on send event at_last sent old new on f = record {
   number = f.number;
   owner = f.owner;
-  told = on.same f.number (event, at_last) f.told;
+  recorded = on.same f.number (event, at_last) f.recorded;
 }
 
 -- the stories after a part of an event that sends nothing
@@ -306,8 +306,8 @@ false_true e = absurd (nothing e)
     nothing : false ≡ true → ⊥
     nothing e = cc
 
--- a send begins the story of a datagram, and readies nothing
-sends_begin : (act : Act) (a : Answer) → sends act a ≡ true → (begins act ≡ Some kinds.Datagram) × (readies act ≡ None)
+-- a send begins the story of a datagram, and prepares nothing
+sends_begin : (act : Act) (a : Answer) → sends act a ≡ true → (begins act ≡ Some kinds.Datagram) × (prepares act ≡ None)
 sends_begin (acts.Send from to octets) a is = (refl, refl)
 sends_begin (acts.Coordinator eui) a is = false_true is
 sends_begin (acts.Meter eui) a is = false_true is
@@ -316,7 +316,7 @@ sends_begin (acts.Near x y) a is = false_true is
 sends_begin (acts.Counter node) a is = false_true is
 sends_begin (acts.Number node) a is = false_true is
 sends_begin (acts.Allow node) a is = false_true is
-sends_begin (acts.Rand node) a is = false_true is
+sends_begin (acts.RandomOctets node) a is = false_true is
 sends_begin (acts.Join node agent) a is = false_true is
 sends_begin (acts.Leave node) a is = false_true is
 sends_begin (acts.Deliver flight node cost) a is = false_true is
@@ -355,13 +355,13 @@ pushed_face xs y =
 record IsBegun (old : Stories) (event : ℕ) (s : Stories) : Type 0 where
   owner : last_owner s.owners ≡ length s.stories
   longer : length old.stories < length s.stories
-  told : face_at (length s.stories) s.stories ≡ Some (event, None)
+  recorded : face_at (length s.stories) s.stories ≡ Some (event, None)
 
 settled_so : (act : Act) (s : Stories) → GoesOn s (settled act s)
 unfolding settled
 settled_so act s =
     let lined = with_line (unready (joins act) s.ready) (length s.owners + 1) s.stories in
-    let place = place_of act lined s.lots in
+    let place = place_of act lined s.courses in
     record {
       sent = refl;
       on = go_through s.stories lined (with_place place (next_event s) (person_of act) lined)
@@ -372,8 +372,8 @@ begun_so : (act : Act) (s : Stories) → begins act ≡ Some kinds.Datagram → 
 unfolding settled
 begun_so act s is =
     let lined = with_line (unready (joins act) s.ready) (length s.owners + 1) s.stories in
-    let place = place_of act lined s.lots in
-    let new : place ≡ New kinds.Datagram = ap (λ (o : Option StoryKind). place_by o act lined s.lots) is in
+    let place = place_of act lined s.courses in
+    let new : place ≡ New kinds.Datagram = ap (λ (o : Option StoryKind). place_by o act lined s.courses) is in
     let story = new_story kinds.Datagram (next_event s) (person_of act) in
     let count : length (with_place place (next_event s) (person_of act) lined) ≡ suc (length lined) =
     ap (λ (p : Place). length (with_place p (next_event s) (person_of act) lined)) new ∙ pushed_count lined story in
@@ -383,7 +383,7 @@ begun_so act s is =
           (line_number (unready (joins act) s.ready) s.stories) s.ready) (number_at place lined)
           ∙ ap (λ (p : Place). number_at p lined) new ∙ sym (count ∙ omega arith);
       longer = omega (arith, count, line_longer (unready (joins act) s.ready) (length s.owners + 1) s.stories);
-      told =
+      recorded =
           subst (λ (p : Place). face_at (length (with_place p (next_event s) (person_of act) lined)) (with_place p (next_event s) (person_of act) lined)
           ≡ Some (next_event s, None)) (sym new) (pushed_face lined story);
     }
@@ -452,7 +452,7 @@ follows_sent : (b : Bool) (story send event : ℕ) (at_last : Option ℕ) (sent 
     → Follows send event at_last (sent_with b story sent) stories
 follows_sent false story send event at_last sent stories f = f
 follows_sent true story send event at_last sent stories f =
-    record { number = f.number; owner = kept_number sent story send f.number f.owner; told = f.told }
+    record { number = f.number; owner = kept_number sent story send f.number f.owner; recorded = f.recorded }
 
 -- # What is handed up
 
@@ -492,7 +492,7 @@ up_length (Some note) n sent stories = by_story (numbered sent note)
 follows_up : (o : Option ℕ) (n send event : ℕ) (at_last : Option ℕ) (sent : List ℕ) (count : ℕ) (stories : List Story) → AreOwn sent count
     → Follows send event at_last sent stories → Follows send event (or_first at_last (is_of o send) n) sent (up_marked o n sent stories)
 follows_up None n send event at_last sent count stories own f =
-    record { number = f.number; owner = f.owner; told = f.told ∙ ap (λ (c : Option ℕ). Some (event, c)) (sym (same_first at_last n)) }
+    record { number = f.number; owner = f.owner; recorded = f.recorded ∙ ap (λ (c : Option ℕ). Some (event, c)) (sym (same_first at_last n)) }
 follows_up (Some note) n send event at_last sent count stories own f = by_test (note == send) refl
   where
     marked_story : Option ℕ → List Story
@@ -510,19 +510,19 @@ follows_up (Some note) n send event at_last sent count stories own f = by_test (
         record {
           number = f.number;
           owner = f.owner;
-          told = ap (λ (o : Option ℕ). face_at f.number (marked_story o)) here ∙ came_here n f.number event at_last stories f.told;
+          recorded = ap (λ (o : Option ℕ). face_at f.number (marked_story o)) here ∙ came_here n f.number event at_last stories f.recorded;
         }
     by_test false is =
         record {
           number = f.number;
           owner = f.owner;
-          told =
-              other (numbered sent note) refl (eqb-false note send is) ∙ f.told ∙ ap (λ (c : Option ℕ). Some (event, c)) (sym (same_first at_last n));
+          recorded =
+              other (numbered sent note) refl (eqb-false note send is) ∙ f.recorded ∙ ap (λ (c : Option ℕ). Some (event, c)) (sym (same_first at_last n));
         }
 
 -- # What an event does to what nodes keep, and its flights
 
-kept_on : (e : TaleEvent) (n story : ℕ) (s : Stories) → GoesOn s (kept_seen e n story s)
+kept_on : (e : RecordedEvent) (n story : ℕ) (s : Stories) → GoesOn s (kept_seen e n story s)
 unfolding kept_seen
 kept_on e n story s =
     let a = kept_ended e n s in
@@ -532,10 +532,10 @@ kept_on e n story s =
       sent = refl;
       on = go_through s.stories a.stories (piece_begun e n c).stories (may_end_on (may_end e) n e s.keeping s.stories)
           (go_through a.stories c.stories (piece_begun e n c).stories (begun_on (waiting_kept e n story) a.stories)
-          (begun_on (piece_kept e n c.lots c.keeping) c.stories));
+          (begun_on (piece_kept e n c.courses c.keeping) c.stories));
     }
 
-announced_on : (e : TaleEvent) (flights : List TaleFlight) (s : Stories) → GoesOn s (announced e flights s)
+announced_on : (e : RecordedEvent) (flights : List RecordedFlight) (s : Stories) → GoesOn s (announced e flights s)
 unfolding announced
 announced_on e flights s =
     let about = message_about e flights in
@@ -548,13 +548,13 @@ leave_on : (b : Bool) (owner node : ℕ) (keeping : List Kept) (xs : List Story)
 leave_on true owner node keeping xs = left_on (has_kept false owner node keeping) owner xs
 leave_on false owner node keeping xs = stay xs xs refl (λ n. refl)
 
-flight_on : (f : TaleFlight) (s : Stories) → GoesOn s (flight_seen f s)
+flight_on : (f : RecordedFlight) (s : Stories) → GoesOn s (flight_seen f s)
 unfolding flight_seen
 flight_on f s =
     let owner = flight_owner f (last_owner s.owners) s in
     record { sent = refl; on = leave_on (may_leave f) owner f.from s.keeping s.stories }
 
-flights_on : (fs : List TaleFlight) (s : Stories) → GoesOn s (flights_seen fs s)
+flights_on : (fs : List RecordedFlight) (s : Stories) → GoesOn s (flights_seen fs s)
 flights_on [] s = record { sent = refl; on = stay s.stories s.stories refl (λ n. refl) }
 flights_on (f ∷ fs) s = goes_through s (flight_seen f s) (flights_seen fs (flight_seen f s)) (flight_on f s) (flights_on fs (flight_seen f s))
 
@@ -586,21 +586,21 @@ settled_number : (act : Act) (s : Stories) → length (settled act s).owners ≡
 settled_number act s = omega (arith, settled_count act s, ap length (none_ready act s))
 
 -- the list of sends, and the stories, after an event of a story said what it says
-record IsRecorded (e : TaleEvent) (n story : ℕ) (s t : Stories) : Type 0 where
+record IsRecorded (e : RecordedEvent) (n story : ℕ) (s t : Stories) : Type 0 where
   sent : t.sent ≡ sent_with (sends e.act e.answer) story s.sent
   stories : t.stories ≡ up_marked e.up n (sent_with (sends e.act e.answer) story s.sent) (changed_at story (marked n e) s.stories)
 
-recorded_so : (e : TaleEvent) (n story : ℕ) (s : Stories) → IsRecorded e n story s (recorded e n story s)
-unfolding recorded
+recorded_so : (e : RecordedEvent) (n story : ℕ) (s : Stories) → IsRecorded e n story s (stories_after e n story s)
+unfolding stories_after
 recorded_so e n story s = record { sent = refl; stories = refl }
 
-recorded_length : (e : TaleEvent) (n story : ℕ) (s : Stories) → length (recorded e n story s).stories ≡ length s.stories
+recorded_length : (e : RecordedEvent) (n story : ℕ) (s : Stories) → length (stories_after e n story s).stories ≡ length s.stories
 recorded_length e n story s =
     ap length (recorded_so e n story s).stories
     ∙ up_length e.up n (sent_with (sends e.act e.answer) story s.sent) (changed_at story (marked n e) s.stories)
     ∙ changed_length (marked n e) story s.stories
 
-settled_own : (e : TaleEvent) (s : Stories) → AreOwnIn s
+settled_own : (e : RecordedEvent) (s : Stories) → AreOwnIn s
     → AreOwn (sent_with (sends e.act e.answer) (last_owner (settled e.act s).owners) (settled e.act s).sent) (length (settled e.act s).stories)
 settled_own e s own =
     let on = settled_so e.act s in
@@ -610,45 +610,46 @@ settled_own e s own =
     (own_sent (sends e.act e.answer) s.sent (last_owner (settled e.act s).owners) (length s.stories) (length (settled e.act s).stories) on.on.longer
     (λ is. let begun = begun_so e.act s (sends_begin e.act e.answer is).0 in (begun.owner, begun.longer)) own)
 
-recorded_own : (e : TaleEvent) (s : Stories) → AreOwnIn s
-    → AreOwnIn (recorded e (length (settled e.act s).owners) (last_owner (settled e.act s).owners) (settled e.act s))
+recorded_own : (e : RecordedEvent) (s : Stories) → AreOwnIn s
+    → AreOwnIn (stories_after e (length (settled e.act s).owners) (last_owner (settled e.act s).owners) (settled e.act s))
 recorded_own e s own =
     let t = settled e.act s in
     let n = length t.owners in
     let story = last_owner t.owners in
     let is = recorded_so e n story t in
-    subst (λ (xs : List ℕ). AreOwn xs (length (recorded e n story t).stories)) (sym is.sent)
+    subst (λ (xs : List ℕ). AreOwn xs (length (stories_after e n story t).stories)) (sym is.sent)
     (subst (λ (k : ℕ). AreOwn (sent_with (sends e.act e.answer) story t.sent) k) (sym (recorded_length e n story t)) (settled_own e s own))
 
-readied_on : (node : ℕ) (e : TaleEvent) (s : Stories) → GoesOn s (event_by (Some node) e s)
+readied_on : (node : ℕ) (e : RecordedEvent) (s : Stories) → GoesOn s (event_by (Some node) e s)
 readied_on node e s = record { sent = refl; on = may_end_on (may_end e) (next_event s) e s.keeping s.stories }
 
-event_own_by : (o : Option ℕ) (e : TaleEvent) (s : Stories) → AreOwnIn s → AreOwnIn (event_by o e s)
+event_own_by : (o : Option ℕ) (e : RecordedEvent) (s : Stories) → AreOwnIn s → AreOwnIn (event_by o e s)
 event_own_by (Some node) e s own = goes_own s (event_by (Some node) e s) (readied_on node e s) own
 event_own_by None e s own =
     let t = settled e.act s in
     let n = length t.owners in
     let story = last_owner t.owners in
-    goes_own (recorded e n story t) (kept_seen e n story (recorded e n story t)) (kept_on e n story (recorded e n story t)) (recorded_own e s own)
+    goes_own (stories_after e n story t) (kept_seen e n story (stories_after e n story t)) (kept_on e n story (stories_after e n story t))
+    (recorded_own e s own)
 
-event_own : (e : TaleEvent) (s : Stories) → AreOwnIn s → AreOwnIn (event_seen e s)
+event_own : (e : RecordedEvent) (s : Stories) → AreOwnIn s → AreOwnIn (event_seen e s)
 unfolding event_seen
-event_own e s own = event_own_by (readies e.act) e s own
+event_own e s own = event_own_by (prepares e.act) e s own
 
 -- a send that was followed, when an event of this number said what it says
-recorded_follows : (e : TaleEvent) (n story send event : ℕ) (at_last : Option ℕ) (s : Stories)
+recorded_follows : (e : RecordedEvent) (n story send event : ℕ) (at_last : Option ℕ) (s : Stories)
     → AreOwn (sent_with (sends e.act e.answer) story s.sent) (length s.stories)
     → Follows send event at_last (sent_with (sends e.act e.answer) story s.sent) (changed_at story (marked n e) s.stories)
-    → FollowsIn send event (or_first at_last (is_of e.up send) n) (recorded e n story s)
+    → FollowsIn send event (or_first at_last (is_of e.up send) n) (stories_after e n story s)
 recorded_follows e n story send event at_last s own f =
     let is = recorded_so e n story s in
     let sent = sent_with (sends e.act e.answer) story s.sent in
-    subst (λ (xs : List ℕ). Follows send event (or_first at_last (is_of e.up send) n) xs (recorded e n story s).stories) (sym is.sent)
+    subst (λ (xs : List ℕ). Follows send event (or_first at_last (is_of e.up send) n) xs (stories_after e n story s).stories) (sym is.sent)
     (subst (λ (xs : List Story). Follows send event (or_first at_last (is_of e.up send) n) sent xs) (sym is.stories)
     (follows_up e.up n send event at_last sent (length s.stories) (changed_at story (marked n e) s.stories) own f))
 
 -- the event of a story, by what is followed when it is settled
-settled_follows : (e : TaleEvent) (send event : ℕ) (at_last : Option ℕ) (s : Stories) → AreOwnIn s → readies e.act ≡ None
+settled_follows : (e : RecordedEvent) (send event : ℕ) (at_last : Option ℕ) (s : Stories) → AreOwnIn s → prepares e.act ≡ None
     → Follows send event at_last (sent_with (sends e.act e.answer) (last_owner (settled e.act s).owners) (settled e.act s).sent) (settled e.act s).stories
     → FollowsIn send event (or_first at_last (is_of e.up send) (next_event s)) (event_seen e s)
 unfolding event_seen
@@ -656,7 +657,7 @@ settled_follows e send event at_last s own none f =
     let t = settled e.act s in
     let n = length t.owners in
     let story = last_owner t.owners in
-    let r = recorded e n story t in
+    let r = stories_after e n story t in
     subst (λ (o : Option ℕ). FollowsIn send event (or_first at_last (is_of e.up send) (next_event s)) (event_by o e s)) (sym none)
     (subst (λ (k : ℕ). FollowsIn send event (or_first at_last (is_of e.up send) k) (kept_seen e n story r)) (settled_number e.act s)
     (goes_follow send event (or_first at_last (is_of e.up send) n) r (kept_seen e n story r) (kept_on e n story r)
@@ -665,19 +666,19 @@ settled_follows e send event at_last s own none f =
     (marked_on n e story t.stories) f))))
 
 -- a send that was followed before
-event_follows : (e : TaleEvent) (send event : ℕ) (at_last : Option ℕ) (s : Stories) → ReadiesOnly e → AreOwnIn s → FollowsIn send event at_last s
+event_follows : (e : RecordedEvent) (send event : ℕ) (at_last : Option ℕ) (s : Stories) → ReadiesOnly e → AreOwnIn s → FollowsIn send event at_last s
     → FollowsIn send event (or_first at_last (is_of e.up send) (next_event s)) (event_seen e s)
 unfolding event_seen
-event_follows e send event at_last s only own f = by_ready (readies e.act) refl
+event_follows e send event at_last s only own f = by_ready (prepares e.act) refl
   where
     readied : (node : ℕ) → FollowsIn send event at_last (event_by (Some node) e s)
     readied node = goes_follow send event at_last s (event_by (Some node) e s) (readied_on node e s) f
 
-    by_ready : (o : Option ℕ) → readies e.act ≡ o → FollowsIn send event (or_first at_last (is_of e.up send) (next_event s)) (event_seen e s)
+    by_ready : (o : Option ℕ) → prepares e.act ≡ o → FollowsIn send event (or_first at_last (is_of e.up send) (next_event s)) (event_seen e s)
     by_ready (Some node) is =
         let quiet : or_first at_last (is_of e.up send) (next_event s) ≡ at_last =
         ap (λ (u : Option ℕ). or_first at_last (is_of u send) (next_event s)) (only (ap is_some is)) ∙ same_first at_last (next_event s) in
-        subst (λ (c : Option ℕ). FollowsIn send event c (event_by (readies e.act) e s)) (sym quiet)
+        subst (λ (c : Option ℕ). FollowsIn send event c (event_by (prepares e.act) e s)) (sym quiet)
         (subst (λ (o : Option ℕ). FollowsIn send event at_last (event_by o e s)) (sym is) (readied node))
     by_ready None is =
         let t = settled e.act s in
@@ -686,7 +687,7 @@ event_follows e send event at_last s only own f = by_ready (readies e.act) refl
         (follows_sent (sends e.act e.answer) (last_owner t.owners) send event at_last t.sent t.stories (goes_follow send event at_last s t on f))
 
 -- a send that begins
-event_begins : (e : TaleEvent) (s : Stories) → AreOwnIn s → sends e.act e.answer ≡ true
+event_begins : (e : RecordedEvent) (s : Stories) → AreOwnIn s → sends e.act e.answer ≡ true
     → FollowsIn (length s.sent + 1) (next_event s) (or_first None (is_of e.up (length s.sent + 1)) (next_event s)) (event_seen e s)
 event_begins e s own is =
     let t = settled e.act s in
@@ -700,24 +701,24 @@ event_begins e s own is =
           ap (λ (b : Bool). numbered (sent_with b (last_owner t.owners) t.sent) (length s.sent + 1)) is
           ∙ ap (λ (xs : List ℕ). numbered (xs ++ (last_owner t.owners ∷ [])) (length s.sent + 1)) on.sent
           ∙ last_number s.sent (last_owner t.owners) ∙ ap Some begun.owner;
-      told = begun.told;
+      recorded = begun.recorded;
     })
 
--- # A whole tale
+-- # A whole record
 
-told_on : (e : TaleEvent) (flights : List TaleFlight) (s : Stories) → GoesOn (event_seen e s) (told_seen e flights s)
-unfolding told_seen
+told_on : (e : RecordedEvent) (flights : List RecordedFlight) (s : Stories) → GoesOn (event_seen e s) (record_seen e flights s)
+unfolding record_seen
 told_on e flights s =
     let t = event_seen e s in
     goes_through t (announced e flights t) (flights_seen (made_by e flights) (announced e flights t)) (announced_on e flights t)
     (flights_on (made_by e flights) (announced e flights t))
 
-told_own : (e : TaleEvent) (flights : List TaleFlight) (s : Stories) → AreOwnIn s → AreOwnIn (told_seen e flights s)
-told_own e flights s own = goes_own (event_seen e s) (told_seen e flights s) (told_on e flights s) (event_own e s own)
+told_own : (e : RecordedEvent) (flights : List RecordedFlight) (s : Stories) → AreOwnIn s → AreOwnIn (record_seen e flights s)
+told_own e flights s own = goes_own (event_seen e s) (record_seen e flights s) (told_on e flights s) (event_own e s own)
 
-events_own : (flights : List TaleFlight) (es : List TaleEvent) (s : Stories) → AreOwnIn s → AreOwnIn (events_seen flights es s)
+events_own : (flights : List RecordedFlight) (es : List RecordedEvent) (s : Stories) → AreOwnIn s → AreOwnIn (events_seen flights es s)
 events_own flights [] s own = own
-events_own flights (e ∷ es) s own = events_own flights es (told_seen e flights s) (told_own e flights s own)
+events_own flights (e ∷ es) s own = events_own flights es (record_seen e flights s) (told_own e flights s own)
 
 abbrev or_else : Option ℕ → Option ℕ → Option ℕ
 or_else None other = other
@@ -728,18 +729,18 @@ first_then None true n rest = refl
 first_then None false n rest = refl
 first_then (Some m) b n rest = refl
 
-all_first : (e : TaleEvent) (es : List TaleEvent) → All ReadiesOnly (e ∷ es) → ReadiesOnly e
+all_first : (e : RecordedEvent) (es : List RecordedEvent) → All ReadiesOnly (e ∷ es) → ReadiesOnly e
 all_first e es only = only 0 e (omega arith)
 
-all_rest : (e : TaleEvent) (es : List TaleEvent) → All ReadiesOnly (e ∷ es) → All ReadiesOnly es
+all_rest : (e : RecordedEvent) (es : List RecordedEvent) → All ReadiesOnly (e ∷ es) → All ReadiesOnly es
 all_rest e es only = λ k d inside. only (suc k) d (omega (arith, inside))
 
-events_follow : (flights : List TaleFlight) (es : List TaleEvent) (send event : ℕ) (at_last : Option ℕ) (s : Stories) → All ReadiesOnly es → AreOwnIn s
+events_follow : (flights : List RecordedFlight) (es : List RecordedEvent) (send event : ℕ) (at_last : Option ℕ) (s : Stories) → All ReadiesOnly es → AreOwnIn s
     → FollowsIn send event at_last s → FollowsIn send event (or_else at_last (first_up send (next_event s) es)) (events_seen flights es s)
 events_follow flights [] send event None s only own f = f
 events_follow flights [] send event (Some n) s only own f = f
 events_follow flights (e ∷ es) send event at_last s only own f =
-    let t = told_seen e flights s in
+    let t = record_seen e flights s in
     let c = or_first at_last (is_of e.up send) (next_event s) in
     let next : next_event t ≡ next_event s + 1 = omega (arith, one_more e flights s) in
     let rest =
@@ -750,22 +751,22 @@ events_follow flights (e ∷ es) send event at_last s only own f =
     ∙ first_then at_last (is_of e.up send) (next_event s) (first_up send (next_event s + 1) es) in
     subst (λ (o : Option ℕ). FollowsIn send event o (events_seen flights es t)) numbers rest
 
-events_through : (flights : List TaleFlight) (before after : List TaleEvent) (s : Stories)
+events_through : (flights : List RecordedFlight) (before after : List RecordedEvent) (s : Stories)
     → events_seen flights (before ++ after) s ≡ events_seen flights after (events_seen flights before s)
 events_through flights [] after s = refl
-events_through flights (e ∷ es) after s = events_through flights es after (told_seen e flights s)
+events_through flights (e ∷ es) after s = events_through flights es after (record_seen e flights s)
 
 -- the number of sends after an event
-one_sent : (e : TaleEvent) (flights : List TaleFlight) (s : Stories)
-    → length (told_seen e flights s).sent ≡ length s.sent + (if sends e.act e.answer then 1 else 0)
+one_sent : (e : RecordedEvent) (flights : List RecordedFlight) (s : Stories)
+    → length (record_seen e flights s).sent ≡ length s.sent + (if sends e.act e.answer then 1 else 0)
 unfolding event_seen
-one_sent e flights s = ap length (told_on e flights s).sent ∙ by_ready (readies e.act) refl
+one_sent e flights s = ap length (told_on e flights s).sent ∙ by_ready (prepares e.act) refl
   where
     with_sent : (b : Bool) (story : ℕ) (xs : List ℕ) → length (sent_with b story xs) ≡ length xs + (if b then 1 else 0)
     with_sent true story xs = length-append xs (story ∷ [])
     with_sent false story xs = omega arith
 
-    sends_none : (b : Bool) (node : ℕ) → sends e.act e.answer ≡ b → readies e.act ≡ Some node → length s.sent ≡ length s.sent + (if b then 1 else 0)
+    sends_none : (b : Bool) (node : ℕ) → sends e.act e.answer ≡ b → prepares e.act ≡ Some node → length s.sent ≡ length s.sent + (if b then 1 else 0)
     sends_none true node asks is = absurd (none-some node (sym (sends_begin e.act e.answer asks).1 ∙ is))
     sends_none false node asks is = omega arith
 
@@ -774,18 +775,18 @@ one_sent e flights s = ap length (told_on e flights s).sent ∙ by_ready (readie
         let t = settled e.act s in
         let n = length t.owners in
         let story = last_owner t.owners in
-        ap length ((kept_on e n story (recorded e n story t)).sent ∙ (recorded_so e n story t).sent)
+        ap length ((kept_on e n story (stories_after e n story t)).sent ∙ (recorded_so e n story t).sent)
         ∙ with_sent (sends e.act e.answer) story t.sent
         ∙ ap (λ (xs : List ℕ). length xs + (if sends e.act e.answer then 1 else 0)) (settled_so e.act s).sent
 
-    by_ready : (o : Option ℕ) → readies e.act ≡ o → length (event_seen e s).sent ≡ length s.sent + (if sends e.act e.answer then 1 else 0)
+    by_ready : (o : Option ℕ) → prepares e.act ≡ o → length (event_seen e s).sent ≡ length s.sent + (if sends e.act e.answer then 1 else 0)
     by_ready (Some node) is =
         ap (λ (o : Option ℕ). length (event_by o e s).sent) is ∙ sends_none (sends e.act e.answer) node refl is
     by_ready None is = ap (λ (o : Option ℕ). length (event_by o e s).sent) is ∙ by_none
 
-events_sent : (flights : List TaleFlight) (es : List TaleEvent) (s : Stories) → length (events_seen flights es s).sent ≡ length s.sent + sends_in es
+events_sent : (flights : List RecordedFlight) (es : List RecordedEvent) (s : Stories) → length (events_seen flights es s).sent ≡ length s.sent + sends_in es
 events_sent flights [] s = omega arith
-events_sent flights (e ∷ es) s = omega (arith, events_sent flights es (told_seen e flights s), one_sent e flights s)
+events_sent flights (e ∷ es) s = omega (arith, events_sent flights es (record_seen e flights s), one_sent e flights s)
 
 no_numbers : (k i : ℕ) → numbered [] k ≡ Some i → ⊥
 no_numbers zero i is = none-some i is
@@ -810,7 +811,7 @@ face_parts kinds.Line first event reached at_last is = absurd (none-some (event,
 
 -- # The verdict of the story of a datagram
 
-begun_verdict : (x : Story) (ends : Ends) (e : TaleEvent) (at_last : Option ℕ) → is_begun e.answer ≡ true → x.kind ≡ kinds.Datagram → x.reached ≡ at_last
+begun_verdict : (x : Story) (ends : Ends) (e : RecordedEvent) (at_last : Option ℕ) → is_begun e.answer ≡ true → x.kind ≡ kinds.Datagram → x.reached ≡ at_last
     → verdict_of x ends e ≡ reached_or at_last (unreached_datagram ends)
 begun_verdict x ends e at_last begun kind reached =
     ap (λ (k : StoryKind). verdict_by k x ends e) kind
@@ -831,35 +832,35 @@ unreached_at ends = by_bears ends.bears (ends.broken == 0)
     by_bears true false = refl
     by_bears false c = refl
 
-never_reached : (x : Story) (ends : Ends) (e : TaleEvent) (n : ℕ) → verdict_of x ends e ≡ reached_or None (unreached_datagram ends)
+never_reached : (x : Story) (ends : Ends) (e : RecordedEvent) (n : ℕ) → verdict_of x ends e ≡ reached_or None (unreached_datagram ends)
     → verdict_of x ends e ≡ verdicts.Reached n → ⊥
 unfolding came_at
 never_reached x ends e n is reached = none-some n (sym (unreached_at ends) ∙ ap came_at (sym is ∙ reached))
 
-story_so : (send event : ℕ) (at_last : Option ℕ) (e : TaleEvent) (s : Stories) → is_begun e.answer ≡ true → FollowsIn send event at_last s
+story_so : (send event : ℕ) (at_last : Option ℕ) (e : RecordedEvent) (s : Stories) → is_begun e.answer ≡ true → FollowsIn send event at_last s
     → IsDatagramStory send event at_last e s
 story_so send event at_last e s begun f =
-    option_and_then_some face (numbered s.stories f.number) (event, at_last) f.told
+    option_and_then_some face (numbered s.stories f.number) (event, at_last) f.recorded
     (λ x there faced.
     let parts = face_parts x.kind x.first event x.reached at_last faced in
     record {
       number = f.number;
       story = x;
       sent = f.owner;
-      told = there;
+      recorded = there;
       kind = parts.0;
       first = parts.1;
       came = λ n is ends. begun_verdict x ends e (Some n) begun parts.0 (parts.2 ∙ is);
       never = λ is ends n. never_reached x ends e n (begun_verdict x ends e None begun parts.0 (parts.2 ∙ is));
     })
 
-followed_from : (e : TaleEvent) (after : List TaleEvent) (flights : List TaleFlight) (s : Stories) → All ReadiesOnly (e ∷ after)
+followed_from : (e : RecordedEvent) (after : List RecordedEvent) (flights : List RecordedFlight) (s : Stories) → All ReadiesOnly (e ∷ after)
     → sends e.act e.answer ≡ true → AreOwnIn s
     → FollowsIn (length s.sent + 1) (next_event s) (first_up (length s.sent + 1) (next_event s) (e ∷ after)) (events_seen flights (e ∷ after) s)
 followed_from e after flights s only is own =
     let send = length s.sent + 1 in
     let event = next_event s in
-    let t = told_seen e flights s in
+    let t = record_seen e flights s in
     let c = or_first None (is_of e.up send) event in
     let next : next_event t ≡ event + 1 = omega (arith, one_more e flights s) in
     let rest =
@@ -869,13 +870,13 @@ followed_from e after flights s only is own =
     ap (λ (k : ℕ). or_else c (first_up send k after)) next ∙ first_then None (is_of e.up send) event (first_up send (event + 1) after) in
     subst (λ (o : Option ℕ). FollowsIn send event o (events_seen flights after t)) numbers rest
 
-sent_sends : (e : TaleEvent) (from to octets : ℕ) → e.act ≡ acts.Send from to octets → (e.answer ≡ answers.Sent) ⊎ (e.answer ≡ answers.Waiting)
+sent_sends : (e : RecordedEvent) (from to octets : ℕ) → e.act ≡ acts.Send from to octets → (e.answer ≡ answers.Sent) ⊎ (e.answer ≡ answers.Waiting)
     → sends e.act e.answer ≡ true
 sent_sends e from to octets act is =
     ap (λ (a : Act). sends a e.answer) act
     ∙ ⊎_elim (λ (one : e.answer ≡ answers.Sent). ap is_sent one) (λ (other : e.answer ≡ answers.Waiting). ap is_sent other) is
 
-sent_begun : (e : TaleEvent) → (e.answer ≡ answers.Sent) ⊎ (e.answer ≡ answers.Waiting) → is_begun e.answer ≡ true
+sent_begun : (e : RecordedEvent) → (e.answer ≡ answers.Sent) ⊎ (e.answer ≡ answers.Waiting) → is_begun e.answer ≡ true
 sent_begun e is = ⊎_elim (λ (one : e.answer ≡ answers.Sent). ap is_begun one) (λ (other : e.answer ≡ answers.Waiting). ap is_begun other) is
 
 pub datagrams_are_reached : DatagramsAreReached

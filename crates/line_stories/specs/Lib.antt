@@ -1,3 +1,3 @@
-pub mod Keepings
+pub mod NodeItems
 pub mod Stories
 pub mod Laws

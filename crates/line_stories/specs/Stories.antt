@@ -1,4 +1,4 @@
--- Which story owns which event and which flight of a tale.
+-- Which story owns which event and which flight of a record.
 use Rattle.std.specs.Prelude.{ℕ, ◌+◌, ◌-◌, ◌==◌, ◌&&◌, ◌||◌, Bool, true, false, not, List, [], ◌∷◌, ◌++◌, length, position, slice_get, slice_set}
 use Rattle.std.specs.Prelude.{Option, None, Some, if◌then◌else◌}
 use Rattle.frame_words.specs.declared.gist.FrameTarget.{FrameTarget}
@@ -7,28 +7,28 @@ use Rattle.frame_words.specs.declared.gist.Gist.{Gist}
 use Rattle.frame_words.specs.declared.gist.Gist.TheVariants as gists
 use Rattle.line_events.specs.declared.event.Answer.{Answer}
 use Rattle.line_events.specs.declared.event.Answer.TheVariants as answers
-use Rattle.line_tale.specs.declared.act.Act.{Act}
-use Rattle.line_tale.specs.declared.act.Act.TheVariants as acts
-use Rattle.line_tale.specs.declared.told.TaleEvent.{TaleEvent}
-use Rattle.line_tale.specs.declared.told.TaleFlight.{TaleFlight}
-use Rattle.line_tale.specs.Tales.{made_by, numbered}
-use Rattle.line_tale.specs.declared.kind.StoryKind.{StoryKind}
-use Rattle.line_tale.specs.declared.kind.StoryKind.TheVariants as kinds
-use Rattle.line_tale.specs.declared.story.Story.{Story}
-use Rattle.line_tale.specs.declared.lot.Lot.{Lot}
-use Rattle.line_tale.specs.declared.lot.Fate.TheVariants as fates
+use Rattle.line_record.specs.declared.act.Act.{Act}
+use Rattle.line_record.specs.declared.act.Act.TheVariants as acts
+use Rattle.line_record.specs.declared.recorded.RecordedEvent.{RecordedEvent}
+use Rattle.line_record.specs.declared.recorded.RecordedFlight.{RecordedFlight}
+use Rattle.line_record.specs.RunRecords.{made_by, numbered}
+use Rattle.line_record.specs.declared.kind.StoryKind.{StoryKind}
+use Rattle.line_record.specs.declared.kind.StoryKind.TheVariants as kinds
+use Rattle.line_record.specs.declared.story.Story.{Story}
+use Rattle.line_record.specs.declared.course.Course.{Course}
+use Rattle.line_record.specs.declared.course.Fate.TheVariants as fates
 use Rattle.line_stories.specs.declared.place.Place.{Place}
 use Rattle.line_stories.specs.declared.place.Place.TheVariants.{At, New}
-use Rattle.line_tale.specs.Kinds.{actor_of, begins, goes_on_with, is_line, is_setup, is_setup_kind}
-use Rattle.line_tale.specs.Kinds.{joins, keeps_joinings, makes_node, person_of, readies, sends}
-use Rattle.line_tale.specs.Lists.{changed_at}
-use Rattle.line_tale.specs.declared.kept.Kept.{Kept}
-use Rattle.line_tale.specs.Keeping.{may_end}
-use Rattle.line_tale.specs.Marks.{came, is_node, lots_by, marked, new_story}
-use Rattle.line_stories.specs.Keepings.{handed_up, is_joining, keeping_begun, keeping_left, message_about, message_kept, piece_kept, still_kept}
-use Rattle.line_stories.specs.Keepings.{stories_begun, stories_ended, stories_left, waiting_kept, waiting_story}
+use Rattle.line_record.specs.Kinds.{actor_of, begins, goes_on_with, is_line, is_setup, is_setup_kind}
+use Rattle.line_record.specs.Kinds.{joins, keeps_joinings, makes_node, person_of, prepares, sends}
+use Rattle.line_record.specs.Lists.{changed_at}
+use Rattle.line_record.specs.declared.kept.Kept.{Kept}
+use Rattle.line_record.specs.KeptItems.{may_end}
+use Rattle.line_record.specs.Marks.{came, is_node, courses_by, marked, new_story}
+use Rattle.line_stories.specs.NodeItems.{handed_up, is_joining, keeping_begun, keeping_left, message_about, message_kept, piece_kept, still_kept}
+use Rattle.line_stories.specs.NodeItems.{stories_begun, stories_ended, stories_left, waiting_kept, waiting_story}
 
--- # What is known while a tale is gone through
+-- # What is known while a record is gone through
 
 pub record Stories : Type 0 where
   -- by their numbers from 1
@@ -36,7 +36,7 @@ pub record Stories : Type 0 where
   -- the story of each event, by its number from 1
   pub owners : List ℕ
   -- the flights, by their numbers from 1
-  pub lots : List Lot
+  pub courses : List Course
   -- the story of each send, by its number from 1
   pub sent : List ℕ
   -- the last joining or renewal of each node, by its number from 0; 0 where there was none
@@ -57,7 +57,7 @@ no_stories =
     record {
       stories = [];
       owners = [];
-      lots = [];
+      courses = [];
       sent = [];
       joinings = [];
       homes = [];
@@ -85,22 +85,22 @@ line_place stories = if line_at (slice_get stories (length stories - 1)) then At
 abbrev pub setup_place : List Story → Place
 setup_place stories = if setup_at (slice_get stories 0) then At 1 else New kinds.Setup
 
-abbrev pub lot_place : Option Lot → List Story → Place
-lot_place (Some lot) stories = At lot.story
-lot_place None stories = line_place stories
+abbrev pub course_place : Option Course → List Story → Place
+course_place (Some course) stories = At course.story
+course_place None stories = line_place stories
 
 -- an event that begins no story
-abbrev pub old_place : Option ℕ → Bool → List Story → List Lot → Place
-old_place (Some flight) setup stories lots = lot_place (numbered lots flight) stories
-old_place None true stories lots = setup_place stories
-old_place None false stories lots = line_place stories
+abbrev pub old_place : Option ℕ → Bool → List Story → List Course → Place
+old_place (Some flight) setup stories courses = course_place (numbered courses flight) stories
+old_place None true stories courses = setup_place stories
+old_place None false stories courses = line_place stories
 
-abbrev pub place_by : Option StoryKind → Act → List Story → List Lot → Place
-place_by (Some kind) act stories lots = New kind
-place_by None act stories lots = old_place (goes_on_with act) (is_setup act) stories lots
+abbrev pub place_by : Option StoryKind → Act → List Story → List Course → Place
+place_by (Some kind) act stories courses = New kind
+place_by None act stories courses = old_place (goes_on_with act) (is_setup act) stories courses
 
-abbrev pub place_of : Act → List Story → List Lot → Place
-place_of act stories lots = place_by (begins act) act stories lots
+abbrev pub place_of : Act → List Story → List Course → Place
+place_of act stories courses = place_by (begins act) act stories courses
 
 -- the number of the story at a place
 abbrev pub number_at : Place → List Story → ℕ
@@ -112,14 +112,14 @@ abbrev pub with_place : Place → ℕ → ℕ → List Story → List Story
 with_place (At number) first node stories = stories
 with_place (New kind) first node stories = stories ++ (new_story kind first node ∷ [])
 
--- # What readies a joining
+-- # What prepares a joining
 
--- whether what readies a node readies the joining that comes next, of this meter; what readies the coordinator does so too
+-- whether what prepares a node prepares the joining that comes next, of this meter; what prepares the coordinator does so too
 abbrev pub is_readied : Option ℕ → ℕ → Bool
 is_readied None node = false
 is_readied (Some meter) node = node == 0 || (node == meter)
 
--- the place of the first that readies no joining
+-- the place of the first that prepares no joining
 abbrev pub unready : Option ℕ → List ℕ → Option ℕ
 unready joined ready = position (λ node. not (is_readied joined node)) ready
 
@@ -128,7 +128,7 @@ abbrev pub with_line : Option ℕ → ℕ → List Story → List Story
 with_line None first stories = stories
 with_line (Some place) first stories = with_place (line_place stories) (first + place) 0 stories
 
--- the number of that story, 0 where there is none
+-- the number of that story, 0 if there is none
 abbrev pub line_number : Option ℕ → List Story → ℕ
 line_number None stories = 0
 line_number (Some place) stories = number_at (line_place stories) stories
@@ -150,7 +150,7 @@ next_event s = length s.owners + length s.ready + 1
 -- the events that readied something and an event after them get their stories, by the stories with that of the line
 abbrev pub settled_by : List Story → ℕ → Act → ℕ → Stories → Stories
 settled_by stories line act first s =
-    let place = place_of act stories s.lots in
+    let place = place_of act stories s.courses in
     record s {
       stories = with_place place first (person_of act) stories;
       owners = (s.owners ++ ready_owners (joins act) (number_at place stories) line s.ready) ++ (number_at place stories ∷ []);
@@ -162,7 +162,7 @@ settled act s =
     settled_by (with_line (unready (joins act) s.ready) (length s.owners + 1) s.stories) (line_number (unready (joins act) s.ready) s.stories)
     act (next_event s) s
 
--- the story of the last event, 0 where there is none
+-- the story of the last event, 0 if there is none
 abbrev pub last_owner : List ℕ → ℕ
 last_owner owners = elim (slice_get owners (length owners - 1)) [ None ↦ 0 | Some story ↦ story ]
 
@@ -210,12 +210,12 @@ up_marked (Some note) n sent stories =
     elim (numbered sent note) [ None ↦ stories | Some story ↦ changed_at story (came n) stories ]
 
 -- what an event of this number says to a story and of the line
-unfoldable pub recorded : TaleEvent → ℕ → ℕ → Stories → Stories
-recorded e n story s =
+unfoldable pub stories_after : RecordedEvent → ℕ → ℕ → Stories → Stories
+stories_after e n story s =
     let sent = sent_with (sends e.act e.answer) story s.sent in
     record s {
       stories = up_marked e.up n sent (changed_at story (marked n e) s.stories);
-      lots = lots_by e n s.lots;
+      courses = courses_by e n s.courses;
       sent = sent;
       joinings = nodes_with (makes_node e.act) (joinings_with (joins e.act) story s.joinings);
       homes = homes_with (newcomer (length s.homes) e.act e.answer e.address) s.homes;
@@ -225,7 +225,7 @@ recorded e n story s =
 -- # What nodes keep
 
 -- with what an event ends
-abbrev pub kept_ended : TaleEvent → ℕ → Stories → Stories
+abbrev pub kept_ended : RecordedEvent → ℕ → Stories → Stories
 kept_ended e n s =
     record s {
       stories = if may_end e then stories_ended n e s.keeping s.stories else s.stories;
@@ -245,31 +245,31 @@ abbrev pub up_keeping : Option ℕ → ℕ → List ℕ → List Kept → List K
 up_keeping None node sent keeping = keeping
 up_keeping (Some note) node sent keeping = up_by (numbered sent note) node keeping
 
-abbrev pub up_kept : TaleEvent → Stories → Stories
+abbrev pub up_kept : RecordedEvent → Stories → Stories
 up_kept e s = record s { keeping = up_keeping e.up (actor_of e.act) s.sent s.keeping }
 
-abbrev pub piece_begun : TaleEvent → ℕ → Stories → Stories
-piece_begun e n s = kept_begun (piece_kept e n s.lots s.keeping) s
+abbrev pub piece_begun : RecordedEvent → ℕ → Stories → Stories
+piece_begun e n s = kept_begun (piece_kept e n s.courses s.keeping) s
 
 -- what an event of this number makes of what is kept, but for joining messages
-unfoldable pub kept_seen : TaleEvent → ℕ → ℕ → Stories → Stories
+unfoldable pub kept_seen : RecordedEvent → ℕ → ℕ → Stories → Stories
 kept_seen e n story s = piece_begun e n (kept_begun (waiting_kept e n story) (up_kept e (kept_ended e n s)))
 
 -- # One event and its story
 
--- with a node that an event readies
-abbrev pub readied : ℕ → TaleEvent → Stories → Stories
+-- with a node that an event prepares
+abbrev pub readied : ℕ → RecordedEvent → Stories → Stories
 readied node e s = record s { ready = s.ready ++ (node ∷ []); homes = homes_with (newcomer (length s.homes) e.act e.answer e.address) s.homes }
 
--- an event that readies something has no story so far; at it the coordinator may lose power
-abbrev pub event_by : Option ℕ → TaleEvent → Stories → Stories
+-- an event that prepares something has no story so far; at it the coordinator may lose power
+abbrev pub event_by : Option ℕ → RecordedEvent → Stories → Stories
 event_by (Some node) e s = kept_ended e (next_event s) (readied node e s)
 event_by None e s =
     let owned = settled e.act s in
-    kept_seen e (length owned.owners) (last_owner owned.owners) (recorded e (length owned.owners) (last_owner owned.owners) owned)
+    kept_seen e (length owned.owners) (last_owner owned.owners) (stories_after e (length owned.owners) (last_owner owned.owners) owned)
 
-unfoldable pub event_seen : TaleEvent → Stories → Stories
-event_seen e s = event_by (readies e.act) e s
+unfoldable pub event_seen : RecordedEvent → Stories → Stories
+event_seen e s = event_by (prepares e.act) e s
 
 -- # One flight
 
@@ -312,22 +312,22 @@ owner_or None story = story
 owner_or (Some other) story = other
 
 -- the story of a joining message that flies: that of the first that waited there, unless the event itself made one about that meter
-unfoldable pub message_owner : TaleFlight → ℕ → Stories → ℕ
+unfoldable pub message_owner : RecordedFlight → ℕ → Stories → ℕ
 message_owner f story s =
     if is_own s.message f.device then message_story f.device story s
     else owner_or (waiting_story f.from f.device s.keeping) (message_story f.device story s)
 
 -- the story that owns a flight which an event of a story made: that of the send which it carries, or of the joining message
-unfoldable pub flight_owner : TaleFlight → ℕ → Stories → ℕ
+unfoldable pub flight_owner : RecordedFlight → ℕ → Stories → ℕ
 flight_owner f story s =
     if f.note == 0 then (if is_joining f.gist then message_owner f story s else story) else or_story (numbered s.sent f.note) story
 
 -- whether a flight carries the datagram of a story, or a piece of it, or a joining message of it
-abbrev pub bears_of : TaleFlight → Option Story → Bool
+abbrev pub bears_of : RecordedFlight → Option Story → Bool
 bears_of f story = if f.note == 0 then (if is_joining f.gist then keeps_at story else false) else true
 
 -- whether a flight may have waited for a route
-abbrev pub may_leave : TaleFlight → Bool
+abbrev pub may_leave : RecordedFlight → Bool
 may_leave f = if f.note == 0 then is_joining f.gist else true
 
 -- the search for a route that a flight is of with this number, by that of the flight for which it is sent: a request that its sender begins is the first
@@ -337,60 +337,60 @@ search_of (gists.Seeks origin sought cost) number search = if cost == 0 then num
 search_of (gists.Replies origin to) number search = search
 search_of _ number search = 0
 
-abbrev pub search_at : Option Lot → ℕ
+abbrev pub search_at : Option Course → ℕ
 search_at None = 0
-search_at (Some lot) = lot.search
+search_at (Some course) = course.search
 
 -- the stories and what is kept, where a flight of a story goes out
-abbrev pub left_by : TaleFlight → ℕ → List Kept → List Story → List Story
+abbrev pub left_by : RecordedFlight → ℕ → List Kept → List Story → List Story
 left_by f owner keeping stories = if may_leave f then stories_left owner f.from keeping stories else stories
 
-abbrev pub leaving_by : TaleFlight → ℕ → List Kept → List Kept
+abbrev pub leaving_by : RecordedFlight → ℕ → List Kept → List Kept
 leaving_by f owner keeping = if may_leave f then keeping_left owner f.from keeping else keeping
 
 -- where a flight of a story goes out for which something waited, it has left
-abbrev pub let_leave : TaleFlight → ℕ → Stories → Stories
+abbrev pub let_leave : RecordedFlight → ℕ → Stories → Stories
 let_leave f owner s = record s { stories = left_by f owner s.keeping s.stories; keeping = leaving_by f owner s.keeping }
 
 -- a flight of a story
-abbrev pub flight_of : TaleFlight → ℕ → Stories → Stories
+abbrev pub flight_of : RecordedFlight → ℕ → Stories → Stories
 flight_of f owner s =
     record s {
-      lots = s.lots ++ (record {
+      courses = s.courses ++ (record {
         story = owner;
         to = node_of f.target f.device s.homes;
         fate = fates.Missed;
         bears = bears_of f (numbered s.stories owner);
         overheard = false;
-        search = search_of f.gist (length s.lots + 1) (search_at (numbered s.lots s.came));
+        search = search_of f.gist (length s.courses + 1) (search_at (numbered s.courses s.came));
       } ∷ []);
     }
 
-unfoldable pub flight_seen : TaleFlight → Stories → Stories
+unfoldable pub flight_seen : RecordedFlight → Stories → Stories
 flight_seen f s =
     let_leave f (flight_owner f (last_owner s.owners) s) (flight_of f (flight_owner f (last_owner s.owners) s) s)
 
--- # A whole tale
+-- # A whole record
 
-abbrev pub flights_seen : List TaleFlight → Stories → Stories
+abbrev pub flights_seen : List RecordedFlight → Stories → Stories
 flights_seen [] s = s
 flights_seen (f ∷ fs) s = flights_seen fs (flight_seen f s)
 
 -- with the joining message that an event makes about a meter: it waits where none of the flights of the event is that
-abbrev pub announced_about : Option ℕ → TaleEvent → List TaleFlight → Stories → Stories
+abbrev pub announced_about : Option ℕ → RecordedEvent → List RecordedFlight → Stories → Stories
 announced_about about e made s =
     record (kept_begun (message_kept about e (length s.owners) (message_story about (last_owner s.owners) s) made) s) { message = about }
 
-unfoldable pub announced : TaleEvent → List TaleFlight → Stories → Stories
+unfoldable pub announced : RecordedEvent → List RecordedFlight → Stories → Stories
 announced e flights s = announced_about (message_about e flights) e (made_by e flights) s
 
 -- an event and its flights
-unfoldable pub told_seen : TaleEvent → List TaleFlight → Stories → Stories
-told_seen e flights s = flights_seen (made_by e flights) (announced e flights (event_seen e s))
+unfoldable pub record_seen : RecordedEvent → List RecordedFlight → Stories → Stories
+record_seen e flights s = flights_seen (made_by e flights) (announced e flights (event_seen e s))
 
-abbrev pub events_seen : List TaleFlight → List TaleEvent → Stories → Stories
+abbrev pub events_seen : List RecordedFlight → List RecordedEvent → Stories → Stories
 events_seen flights [] s = s
-events_seen flights (e ∷ es) s = events_seen flights es (told_seen e flights s)
+events_seen flights (e ∷ es) s = events_seen flights es (record_seen e flights s)
 
 -- what readied something last, and no joining came
 abbrev pub ended : Stories → Stories
@@ -401,6 +401,6 @@ ended s =
       ready = [];
     }
 
--- the stories of a tale
-unfoldable pub stories_of : List TaleEvent → List TaleFlight → Stories
+-- the stories of a record
+unfoldable pub stories_of : List RecordedEvent → List RecordedFlight → Stories
 stories_of events flights = ended (events_seen flights events no_stories)

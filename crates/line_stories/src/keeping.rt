@@ -2,36 +2,42 @@
 ghost use Rattle.std.specs.Prelude.{◌≡◌, ◌++◌, IfOk, OnOk};
 ghost use Rattle.std.specs.List.{find, list_any};
 ghost use Rattle.std.specs.Option.{option_copied};
-ghost use Rattle.line_tale.specs.Lists.{changed_at};
-ghost use Rattle.line_tale.specs.Marks as story_marks;
-ghost use Rattle.line_stories.specs.Keepings as keepings;
+ghost use Rattle.line_record.specs.Lists.{changed_at};
+ghost use Rattle.line_record.specs.Marks as story_marks;
+ghost use Rattle.line_stories.specs.NodeItems as node_items;
 
 use frame_words::Gist;
 use line_events::Answer;
-use line_tale::{
-    Act, Kept, KeptEnd, Lot, Story, TaleEvent, TaleFlight, actor_of, end_of, ended_so, is_kept_of,
-    is_message, is_piece_held, is_still, left, makes_message, sends, with_kept,
+use line_record::{
+    Act, Course, Kept, KeptEnd, RecordedEvent, RecordedFlight, Story, actor_of, end_of, ended_so,
+    is_kept_of, is_message, is_piece_held, is_still, left, makes_message, sends, with_kept,
 };
 use std::alloc::{AllocError, Global};
 
 // What begins to be kept at an event, by the node that the event is about.
-fn new_kept(story: usize, told: &TaleEvent, number: usize, about: u32, gathered: bool) -> Kept
-    ensures { result ≡ keepings.new_kept story told.now number about gathered }
+fn new_kept(
+    story: usize,
+    recorded: &RecordedEvent,
+    number: usize,
+    about: u32,
+    gathered: bool,
+) -> Kept
+    ensures { result ≡ node_items.new_kept story recorded.now number about gathered }
 {
     Kept {
         story,
-        node: actor_of(&told.act),
+        node: actor_of(&recorded.act),
         about,
         gathered,
         event: number,
-        clock: told.clock,
-        flight: told.came,
+        clock: recorded.clock,
+        flight: recorded.came,
         end: KeptEnd::Still,
     }
 }
 
 fn is_waiting(answer: Answer) -> bool
-    ensures { result ≡ keepings.is_waiting answer }
+    ensures { result ≡ node_items.is_waiting answer }
 {
     match answer {
         Answer::Waiting => true,
@@ -40,48 +46,58 @@ fn is_waiting(answer: Answer) -> bool
 }
 
 /// The datagram that begins to wait for a route at an event of a story, if one does.
-pub fn waiting_kept(told: &TaleEvent, number: usize, story: usize) -> Option<Kept>
-    ensures { result ≡ keepings.waiting_kept told.now number story }
+pub fn waiting_kept(recorded: &RecordedEvent, number: usize, story: usize) -> Option<Kept>
+    ensures { result ≡ node_items.waiting_kept recorded.now number story }
 {
-    if sends(&told.act, told.answer) && is_waiting(told.answer) {
-        return Some(new_kept(story, told, number, 0, false));
+    if sends(&recorded.act, recorded.answer) && is_waiting(recorded.answer) {
+        return Some(new_kept(story, recorded, number, 0, false));
     }
     None
 }
 
 fn has_kept(keeping: &[Kept], gathered: bool, story: usize, node: u32) -> bool
-    ensures { result ≡ keepings.has_kept gathered story node keeping.now }
+    ensures { result ≡ node_items.has_kept gathered story node keeping.now }
 {
     keeping
         .iter()
         .any(|kept| is_kept_of(gathered, story, node, kept))
 }
 
-fn piece_by(lot: &Lot, told: &TaleEvent, number: usize, keeping: &[Kept]) -> Option<Kept>
-    ensures { result ≡ keepings.piece_by lot.now told.now number keeping.now }
+fn piece_by(
+    course: &Course,
+    recorded: &RecordedEvent,
+    number: usize,
+    keeping: &[Kept],
+) -> Option<Kept>
+    ensures { result ≡ node_items.piece_by course.now recorded.now number keeping.now }
 {
-    if lot.bears && !has_kept(keeping, true, lot.story, actor_of(&told.act)) {
-        return Some(new_kept(lot.story, told, number, 0, true));
+    if course.bears && !has_kept(keeping, true, course.story, actor_of(&recorded.act)) {
+        return Some(new_kept(course.story, recorded, number, 0, true));
     }
     None
 }
 
 /// The piece that begins to be gathered at an event, by what is kept so far, if one does.
-pub fn piece_kept(told: &TaleEvent, number: usize, lots: &[Lot], keeping: &[Kept]) -> Option<Kept>
-    ensures { result ≡ keepings.piece_kept told.now number lots.now keeping.now }
+pub fn piece_kept(
+    recorded: &RecordedEvent,
+    number: usize,
+    courses: &[Course],
+    keeping: &[Kept],
+) -> Option<Kept>
+    ensures { result ≡ node_items.piece_kept recorded.now number courses.now keeping.now }
 {
-    if !is_piece_held(told.answer) || told.came == 0 {
+    if !is_piece_held(recorded.answer) || recorded.came == 0 {
         return None;
     }
-    match lots.get(told.came as usize - 1) {
+    match courses.get(recorded.came as usize - 1) {
         None => None,
-        Some(lot) => piece_by(lot, told, number, keeping),
+        Some(course) => piece_by(course, recorded, number, keeping),
     }
 }
 
 // The meter that the joining message of an event is about which somebody asked for.
 fn asked_about(act: &Act) -> Option<u32>
-    ensures { result ≡ keepings.asked_about act.now }
+    ensures { result ≡ node_items.asked_about act.now }
 {
     match act {
         Act::Challenge { node } => Some(*node),
@@ -93,7 +109,7 @@ fn asked_about(act: &Act) -> Option<u32>
 
 /// Whether a payload is a joining message.
 pub fn is_joining(gist: &Gist) -> bool
-    ensures { result ≡ keepings.is_joining gist.now }
+    ensures { result ≡ node_items.is_joining gist.now }
 {
     match gist {
         Gist::Joins { .. } => true,
@@ -101,8 +117,8 @@ pub fn is_joining(gist: &Gist) -> bool
     }
 }
 
-fn flight_about(flight: &TaleFlight) -> Option<u32>
-    ensures { result ≡ keepings.flight_about flight.now }
+fn flight_about(flight: &RecordedFlight) -> Option<u32>
+    ensures { result ≡ node_items.flight_about flight.now }
 {
     if is_joining(&flight.gist) {
         return flight.device;
@@ -111,16 +127,16 @@ fn flight_about(flight: &TaleFlight) -> Option<u32>
 }
 
 /// The meter that the joining message is about which an event makes, if it makes one.
-pub fn message_about(told: &TaleEvent, flights: &[TaleFlight]) -> Option<u32>
-    ensures { result ≡ keepings.message_about told.now flights.now }
+pub fn message_about(recorded: &RecordedEvent, flights: &[RecordedFlight]) -> Option<u32>
+    ensures { result ≡ node_items.message_about recorded.now flights.now }
 {
-    if !makes_message(told.answer) {
+    if !makes_message(recorded.answer) {
         return None;
     }
-    if told.came == 0 {
-        return asked_about(&told.act);
+    if recorded.came == 0 {
+        return asked_about(&recorded.act);
     }
-    match flights.get(told.came as usize - 1) {
+    match flights.get(recorded.came as usize - 1) {
         None => None,
         Some(flight) => flight_about(flight),
     }
@@ -136,15 +152,15 @@ pub fn is_about(named: Option<u32>, node: u32) -> bool
     }
 }
 
-fn is_message_about(about: u32, flight: &TaleFlight) -> bool
-    ensures { result ≡ keepings.is_message_about about flight.now }
+fn is_message_about(about: u32, flight: &RecordedFlight) -> bool
+    ensures { result ≡ node_items.is_message_about about flight.now }
 {
     is_about(flight_about(flight), about)
 }
 
 // Whether one of these flights is a joining message about a meter.
-fn has_message(about: u32, made: &[TaleFlight]) -> bool
-    ensures { result ≡ list_any (keepings.is_message_about about) made.now }
+fn has_message(about: u32, made: &[RecordedFlight]) -> bool
+    ensures { result ≡ list_any (node_items.is_message_about about) made.now }
 {
     made.iter().any(|flight| is_message_about(about, flight))
 }
@@ -152,12 +168,12 @@ fn has_message(about: u32, made: &[TaleFlight]) -> bool
 /// The message of a story about a meter that begins to wait at an event, if none of the flights of the event is that.
 pub fn message_kept(
     about: Option<u32>,
-    told: &TaleEvent,
+    recorded: &RecordedEvent,
     number: usize,
     story: usize,
-    made: &[TaleFlight],
+    made: &[RecordedFlight],
 ) -> Option<Kept>
-    ensures { result ≡ keepings.message_kept about told.now number story made.now }
+    ensures { result ≡ node_items.message_kept about recorded.now number story made.now }
 {
     let Some(about) = about else {
         return None;
@@ -165,18 +181,18 @@ pub fn message_kept(
     if has_message(about, made) {
         return None;
     }
-    Some(new_kept(story, told, number, about, false))
+    Some(new_kept(story, recorded, number, about, false))
 }
 
 fn first_message(node: u32, about: u32, keeping: &[Kept]) -> Option<&Kept>
-    ensures { option_copied result ≡ find (keepings.is_waiting_message node about) keeping.now }
+    ensures { option_copied result ≡ find (node_items.is_waiting_message node about) keeping.now }
 {
     keeping.iter().find(|kept| is_message(node, about, kept))
 }
 
 /// The story of the first message about a meter that waits at a node, if one does.
 pub fn waiting_story(node: u32, about: Option<u32>, keeping: &[Kept]) -> Option<usize>
-    ensures { result ≡ keepings.waiting_story node about keeping.now }
+    ensures { result ≡ node_items.waiting_story node about keeping.now }
 {
     let Some(about) = about else {
         return None;
@@ -223,8 +239,8 @@ pub fn begin(
     keeping: &mut Vec<Kept>,
     kept: Option<Kept>,
 ) -> Result<(), AllocError>
-    ensures stories { OnOk result (stories.new.items ≡ keepings.stories_begun kept stories.old.items) }
-    ensures keeping { OnOk result (keeping.new.items ≡ keepings.keeping_begun kept keeping.old.items) }
+    ensures stories { OnOk result (stories.new.items ≡ node_items.stories_begun kept stories.old.items) }
+    ensures keeping { OnOk result (keeping.new.items ≡ node_items.keeping_begun kept keeping.old.items) }
 {
     let Some(kept) = kept else {
         return Ok(());
@@ -234,10 +250,10 @@ pub fn begin(
     Ok(())
 }
 
-fn end_in(stories: &mut Vec<Story>, number: usize, told: &TaleEvent, kept: &Kept)
-    ensures { stories.new.items ≡ keepings.story_ended number told.now kept.now stories.old.items }
+fn end_in(stories: &mut Vec<Story>, number: usize, recorded: &RecordedEvent, kept: &Kept)
+    ensures { stories.new.items ≡ node_items.story_ended number recorded.now kept.now stories.old.items }
 {
-    let end = end_of(number, told, kept);
+    let end = end_of(number, recorded, kept);
     if is_still(&end) {
         return;
     }
@@ -245,16 +261,21 @@ fn end_in(stories: &mut Vec<Story>, number: usize, told: &TaleEvent, kept: &Kept
 }
 
 /// Ends what an event of this number ends, in the stories of that.
-pub fn end_stories(stories: &mut Vec<Story>, number: usize, told: &TaleEvent, keeping: &[Kept])
-    ensures { stories.new.items ≡ keepings.stories_ended number told.now keeping.now stories.old.items }
+pub fn end_stories(
+    stories: &mut Vec<Story>,
+    number: usize,
+    recorded: &RecordedEvent,
+    keeping: &[Kept],
+)
+    ensures { stories.new.items ≡ node_items.stories_ended number recorded.now keeping.now stories.old.items }
 {
     for kept in keeping {
-        end_in(stories, number, told, kept);
+        end_in(stories, number, recorded, kept);
     }
 }
 
 fn push_if(list: &mut Vec<Kept>, holds: bool, kept: &Kept) -> Result<(), AllocError>
-    ensures { OnOk result (list.new.items ≡ list.old.items ++ keepings.kept_if holds kept.now) }
+    ensures { OnOk result (list.new.items ≡ list.old.items ++ node_items.kept_if holds kept.now) }
 {
     if holds {
         list.push(*kept)?;
@@ -268,14 +289,14 @@ fn push_if(list: &mut Vec<Kept>, holds: bool, kept: &Kept) -> Result<(), AllocEr
 pub fn still_kept(
     alloc: Global,
     number: usize,
-    told: &TaleEvent,
+    recorded: &RecordedEvent,
     keeping: &[Kept],
 ) -> Result<Vec<Kept>, AllocError>
-    ensures { IfOk result (λ list. list.items ≡ keepings.still_kept number told.now keeping.now) }
+    ensures { IfOk result (λ list. list.items ≡ node_items.still_kept number recorded.now keeping.now) }
 {
     let mut list = Vec::new(alloc);
     for kept in keeping {
-        push_if(&mut list, is_still(&end_of(number, told, kept)), kept)?;
+        push_if(&mut list, is_still(&end_of(number, recorded, kept)), kept)?;
     }
     Ok(list)
 }
@@ -290,7 +311,7 @@ pub fn others_kept(
     node: u32,
     keeping: &[Kept],
 ) -> Result<Vec<Kept>, AllocError>
-    ensures { IfOk result (λ list. list.items ≡ keepings.others_kept gathered story node keeping.now) }
+    ensures { IfOk result (λ list. list.items ≡ node_items.others_kept gathered story node keeping.now) }
 {
     let mut list = Vec::new(alloc);
     for kept in keeping {
@@ -309,8 +330,8 @@ pub fn leave(
     story: usize,
     node: u32,
 ) -> Result<(), AllocError>
-    ensures stories { OnOk result (stories.new.items ≡ keepings.stories_left story node keeping.old.items stories.old.items) }
-    ensures keeping { OnOk result (keeping.new.items ≡ keepings.keeping_left story node keeping.old.items) }
+    ensures stories { OnOk result (stories.new.items ≡ node_items.stories_left story node keeping.old.items stories.old.items) }
+    ensures keeping { OnOk result (keeping.new.items ≡ node_items.keeping_left story node keeping.old.items) }
 {
     if !has_kept(keeping.as_slice(), false, story, node) {
         return Ok(());
@@ -330,7 +351,7 @@ pub fn hand_up(
     story: usize,
     node: u32,
 ) -> Result<(), AllocError>
-    ensures { OnOk result (keeping.new.items ≡ keepings.handed_up story node keeping.old.items) }
+    ensures { OnOk result (keeping.new.items ≡ node_items.handed_up story node keeping.old.items) }
 {
     if !has_kept(keeping.as_slice(), true, story, node) {
         return Ok(());

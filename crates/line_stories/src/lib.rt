@@ -5,17 +5,17 @@
 //! flight at the node that it is for is found too: it went on, or was refused, lost or missed.
 //!
 //! ```text
-//! let telling = stories_of(alloc, &tale)?;
-//! let ends = ends_of(alloc, telling.stories.len(), &telling.lots)?;
-//! for (story, ends) in telling.stories.iter().zip(&ends) {
-//!     match verdict_of(story, ends, tale.event(story.first)?) {
+//! let run_stories = stories_of(alloc, &run_record)?;
+//! let ends = ends_of(alloc, run_stories.stories.len(), &run_stories.courses)?;
+//! for (story, ends) in run_stories.stories.iter().zip(&ends) {
+//!     match verdict_of(story, ends, run_record.event(story.first)?) {
 //!         Verdict::Reached { event } => .. // it came, or is done, at this event
 //!         ..
 //!     }
 //! }
 //! ```
 //!
-//! What an event says of a story, and the verdict of a story, stand in `line_tale`. `specs/Stories.antt` says which story owns which event and
+//! What an event says of a story, and the verdict of a story, stand in `line_record`. `specs/Stories.antt` says which story owns which event and
 //! which flight.
 #![tactic(auto)]
 
@@ -23,6 +23,6 @@ mod keeping;
 pub mod laws;
 mod place;
 mod readiness;
-mod telling;
+mod run_stories;
 
-pub use telling::{Telling, push_home, stories_of};
+pub use run_stories::{RunStories, push_home, stories_of};

@@ -1,11 +1,12 @@
 //! Where an event goes: to a story that is there, or to a new one.
 ghost use Rattle.std.specs.Prelude.{◌≡◌, ◌-◌, IfOk, OnErr, OnOk, length, slice_get};
-ghost use Rattle.line_tale.specs.Tales.{numbered};
-ghost use Rattle.line_tale.specs.Kinds.{goes_on_with, is_setup};
+ghost use Rattle.line_record.specs.RunRecords.{numbered};
+ghost use Rattle.line_record.specs.Kinds.{goes_on_with, is_setup};
 ghost use Rattle.line_stories.specs.Stories as spec_stories;
 
-use line_tale::{
-    Act, Lot, Story, StoryKind, begins, goes_on_with, is_line, is_setup, is_setup_kind, new_story,
+use line_record::{
+    Act, Course, Story, StoryKind, begins, goes_on_with, is_line, is_setup, is_setup_kind,
+    new_story,
 };
 use std::alloc::AllocError;
 
@@ -63,23 +64,25 @@ fn setup_place(stories: &[Story]) -> Place
     }
 }
 
-fn flight_place(flight: usize, stories: &[Story], lots: &[Lot]) -> Place
-    ensures { result ≡ spec_stories.lot_place (numbered lots.now flight) stories.now }
+fn flight_place(flight: usize, stories: &[Story], courses: &[Course]) -> Place
+    ensures { result ≡ spec_stories.course_place (numbered courses.now flight) stories.now }
 {
     if flight == 0 {
         return line_place(stories);
     }
-    match lots.get(flight - 1) {
-        Some(lot) => Place::At { number: lot.story },
+    match courses.get(flight - 1) {
+        Some(course) => Place::At {
+            number: course.story,
+        },
         None => line_place(stories),
     }
 }
 
-fn old_place(act: &Act, stories: &[Story], lots: &[Lot]) -> Place
-    ensures { result ≡ spec_stories.old_place (goes_on_with act.now) (is_setup act.now) stories.now lots.now }
+fn old_place(act: &Act, stories: &[Story], courses: &[Course]) -> Place
+    ensures { result ≡ spec_stories.old_place (goes_on_with act.now) (is_setup act.now) stories.now courses.now }
 {
     if let Some(flight) = goes_on_with(act) {
-        return flight_place(flight as usize, stories, lots);
+        return flight_place(flight as usize, stories, courses);
     }
     if is_setup(act) {
         return setup_place(stories);
@@ -88,12 +91,12 @@ fn old_place(act: &Act, stories: &[Story], lots: &[Lot]) -> Place
 }
 
 /// Where an event goes.
-pub fn place_of(act: &Act, stories: &[Story], lots: &[Lot]) -> Place
-    ensures { result ≡ spec_stories.place_of act.now stories.now lots.now }
+pub fn place_of(act: &Act, stories: &[Story], courses: &[Course]) -> Place
+    ensures { result ≡ spec_stories.place_of act.now stories.now courses.now }
 {
     match begins(act) {
         Some(kind) => Place::New { kind },
-        None => old_place(act, stories, lots),
+        None => old_place(act, stories, courses),
     }
 }
 

@@ -1,12 +1,12 @@
-//! What readies a joining: the lines `allow` and `rand` right before it.
+//! What prepares a joining: the lines `allow` and `rand` right before it.
 ghost use Rattle.std.specs.Prelude.{◌≡◌, ◌<◌, ◌+◌, ◌++◌, IfOk, IfSome, OnOk, OnErr, length};
 ghost use Rattle.line_stories.specs.Stories as spec_stories;
 
 use crate::place::{line_place, take_place};
-use line_tale::Story;
+use line_record::Story;
 use std::alloc::AllocError;
 
-/// Whether what readies a node readies the joining that comes next, if one comes.
+/// Whether what prepares a node prepares the joining that comes next, if one comes.
 pub fn is_readied(joined: Option<u32>, node: u32) -> bool
     ensures { result ≡ spec_stories.is_readied joined node }
 {
@@ -24,7 +24,7 @@ pub fn unready(joined: Option<u32>, ready: &[u32]) -> Option<usize>
     ready.iter().position(|node| !is_readied(joined, *node))
 }
 
-/// Makes a story on the line for what readies no joining, where there is such a thing and the newest story is none. Returns its number, 0
+/// Makes a story on the line for what prepares no joining, where there is such a thing and the newest story is none. Returns its number, 0
 /// where there is none. The first event of these has the number `first`, and the one after them `next`.
 ///
 /// It fails only where memory runs out, and nothing changes then.

@@ -10,16 +10,16 @@ use Rattle.std.specs.Cmp.Lexicographic.{bytes_decides}
 use Rattle.line_events.specs.declared.event.Event.{Event}
 use Rattle.line_rules.specs.Worlds.{Flight, World, flight_at}
 use Rattle.line_script.specs.declared.report.Reason.{Reason}
-use Rattle.line_tale.specs.declared.told.TaleEvent.{TaleEvent}
-use Rattle.line_tale.specs.Tales.{numbered}
-use Rattle.script_runs.specs.Takings.{Taking, Skipped, Taken, Refused}
+use Rattle.line_record.specs.declared.recorded.RecordedEvent.{RecordedEvent}
+use Rattle.line_record.specs.RunRecords.{numbered}
+use Rattle.script_runs.specs.TakenLines.{Taking, Skipped, Taken, Refused}
 use Rattle.pcapng.specs.Blocks.{capture}
 use Rattle.plc_base.specs.declared.address.Eui.{Eui}
 use Rattle.line_script.specs.declared.report.Totals.{Totals}
 use Rattle.line_capture.specs.Captures.{Run, blocks}
 use Rattle.line_view.specs.declared.capture.Wanted.TheVariants as wants
-use Rattle.line_view.specs.Capturing.{Capturing, injected_with, keys_with, octets_of, output_by, rules, totals_of, with_key}
-use Rattle.line_view.specs.Recordings.{Recording, Recorded, recorded, told_of}
+use Rattle.line_view.specs.CaptureRuns.{CaptureRun, injected_with, keys_with, octets_of, output_by, rules, totals_of, with_key}
+use Rattle.line_view.specs.Recordings.{Recording, Recorded, recording_after, event_of_entry}
 use Rattle.line_view.specs.RunMachines.{Stepped}
 use Rattle.line_view.proofs.Recorded.{above_zero, last_recorded}
 
@@ -103,28 +103,28 @@ key_drawn key old new known added = key_by (list_any (bytes_eq key) old) key old
 
 -- # An event
 
-abbrev next_of : Capturing → Recording → List (List ℕ) → List (List ℕ) → Capturing
+abbrev next_of : CaptureRun → Recording → List (List ℕ) → List (List ℕ) → CaptureRun
 next_of m run injected keys = record m { run = run; injected = injected; keys = keys }
 
 no_falsehood : true ≡ false → ⊥
 no_falsehood is = cc
 
 -- an event that was taken and recorded, and of which the octets and the key were kept
-pub entry_captured : (row : ℕ) (m : Capturing) (e : Event) (run : Recording) (injected keys : List (List ℕ)) (t : Taking) (refusal : Option Reason)
+pub entry_captured : (row : ℕ) (m : CaptureRun) (e : Event) (run : Recording) (injected keys : List (List ℕ)) (t : Taking) (refusal : Option Reason)
     → Recorded row e m.run run t refusal → is_some refusal ≡ false → injected ≡ injected_with e m.injected
-    → ((told : TaleEvent) → numbered run.events (length run.events) ≡ Some told → keys ≡ keys_with e told.answer m.keys)
+    → ((recorded : RecordedEvent) → numbered run.events (length run.events) ≡ Some recorded → keys ≡ keys_with e recorded.answer m.keys)
     → Stepped rules row m (next_of m run injected keys) t None
 entry_captured row m e run injected keys Skipped refusal r none brought drew = absurd r
 entry_captured row m e run injected keys (Taken entry) refusal r none brought drew =
-    let told : TaleEvent = told_of row entry m.run in
-    let there : numbered run.events (length run.events) ≡ Some told
+    let recorded : RecordedEvent = event_of_entry row entry m.run in
+    let there : numbered run.events (length run.events) ≡ Some recorded
     = ap (λ (x : Recording). numbered x.events (length x.events)) r.1.1 ∙ last_recorded row entry m.run in
-    let new : Recording = recorded row entry m.run in (
+    let new : Recording = recording_after row entry m.run in (
       refl,
       ap (λ (x : Recording). next_of m x injected keys) r.1.1
           ∙ ap (λ (x : List (List ℕ)). next_of m new x keys) (brought ∙ ap (λ (x : Event). injected_with x m.injected) (sym r.1.0))
           ∙ ap (λ (x : List (List ℕ)). next_of m new (injected_with entry.event m.injected) x)
-          (drew told there ∙ ap (λ (x : Event). keys_with x told.answer m.keys) (sym r.1.0)),
+          (drew recorded there ∙ ap (λ (x : Event). keys_with x recorded.answer m.keys) (sym r.1.0)),
     )
 entry_captured row m e run injected keys (Refused why) refusal r none brought drew =
     absurd (no_falsehood (ap (λ (o : Option Reason). is_some o) (sym r.0) ∙ none))
@@ -132,7 +132,7 @@ entry_captured row m e run injected keys (Refused why) refusal r none brought dr
 -- # A capture
 
 -- the file that is written is the one of the definition
-pub frames_written : (heard : Bool) (m : Capturing) (remark items : List ℕ) (totals : Totals) (euis : List Eui) (run : Run) (octets injected : List (List ℕ))
+pub frames_written : (heard : Bool) (m : CaptureRun) (remark items : List ℕ) (totals : Totals) (euis : List Eui) (run : Run) (octets injected : List (List ℕ))
     → items ≡ capture (blocks heard totals remark euis run) → totals ≡ totals_of m.run.world → euis ≡ m.run.euis
     → run ≡ record { events = m.run.events; flights = m.run.flights; octets = octets; injected = injected }
     → octets ≡ octets_of m.run.world → injected ≡ m.injected → items ≡ output_by (wants.Frames heard) m remark

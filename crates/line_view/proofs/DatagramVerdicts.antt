@@ -4,7 +4,7 @@ use Rattle.std.proofs.Common.{refl, ap, sym, ◌∙◌, subst, arith}
 use Rattle.std.proofs.lemmas.List.{append-nil, append_assoc}
 use Rattle.std.specs.Prelude.{All, is_some, if◌then◌else◌}
 use Rattle.std.specs.Option.{option_map_or}
-use Rattle.plc_base.specs.declared.key.Rand.{Rand}
+use Rattle.plc_base.specs.declared.key.RandomOctets.{RandomOctets}
 use Rattle.line_events.specs.declared.event.Event.{Event}
 use Rattle.line_events.specs.declared.event.Event.TheVariants as events
 use Rattle.line_events.specs.declared.event.StepFault.{StepFault}
@@ -16,20 +16,20 @@ use Rattle.line_rules.specs.Runs.{Entry, IsRun}
 use Rattle.line_rules.specs.Steps.{Step, allow, has_begun, on_meter, on_node, once_begun, psk_of, rand}
 use Rattle.node_rules.specs.Memory.{Node}
 use Rattle.line_rules.specs.Worlds.{Trace, World, node_at, start}
-use Rattle.line_tale.specs.declared.act.Act.TheVariants as acts
-use Rattle.line_tale.specs.declared.told.TaleEvent.{TaleEvent}
-use Rattle.line_tale.specs.Acts.{act_of}
-use Rattle.line_tale.specs.Kinds.{readies, sends}
-use Rattle.line_tale.specs.Tales.{note_of}
+use Rattle.line_record.specs.declared.act.Act.TheVariants as acts
+use Rattle.line_record.specs.declared.recorded.RecordedEvent.{RecordedEvent}
+use Rattle.line_record.specs.Acts.{act_of}
+use Rattle.line_record.specs.Kinds.{readies, sends}
+use Rattle.line_record.specs.RunRecords.{note_of}
 use Rattle.line_stories.specs.Laws.{IsDatagramStory, ReadiesOnly, first_up, is_of, sends_in}
 use Rattle.line_stories.specs.Stories.{stories_of}
 use Rattle.line_stories.proofs.DatagramStories.{datagrams_are_reached}
 use Rattle.event_sentences.specs.Truth.{answer_of}
-use Rattle.line_view.specs.Recordings.{Recording, no_recording, recorded, told_of}
+use Rattle.line_view.specs.Recordings.{Recording, no_recording, recording_after, event_of_entry}
 use Rattle.line_view.specs.Truths.{DatagramsCameAsSaid, entries_in, first_handing_up, recorded_all, sends_among}
-use Rattle.line_view.proofs.Recorded.{recorded_told}
+use Rattle.line_view.proofs.Recorded.{recording_events}
 
--- # What readies a joining hands nothing up
+-- # What prepares a joining hands nothing up
 
 abbrev HandsNothingUp : Step → Type 0
 HandsNothingUp s = (r : World × Trace) → s ≡ Ok r → r.1.happenings.up ≡ None
@@ -76,11 +76,11 @@ unfolding allow
 allow_quiet ciphers w number =
     once_quiet w _ (meter_quiet w number _ (λ x. node_quiet w 0 _ (λ c. option_quiet (psk_of x) _ (λ psk. taken_quiet _ refl))))
 
-rand_quiet : (ciphers : Ciphers) (w : World) (number : ℕ) (value : Rand) → HandsNothingUp (rand ciphers w number value)
+rand_quiet : (ciphers : Ciphers) (w : World) (number : ℕ) (value : RandomOctets) → HandsNothingUp (rand ciphers w number value)
 unfolding rand
 rand_quiet ciphers w number value = once_quiet w _ (node_quiet w number _ (λ x. taken_quiet _ refl))
 
--- an entry that readies a node for a joining hands nothing up
+-- an entry that prepares a node for a joining hands nothing up
 readies_only : (w : World) (x : Entry) → line_step network w x.event ≡ Ok (x.after, x.trace) → is_some (readies (act_of x.event)) ≡ true
     → x.trace.happenings.up ≡ None
 readies_only w x is readied = by_event x.event refl
@@ -93,7 +93,7 @@ readies_only w x is readied = by_event x.event refl
 
     by_event : (event : Event) → x.event ≡ event → x.trace.happenings.up ≡ None
     by_event (events.Allow node) same = quiet (events.Allow node) same (allow_quiet network w node)
-    by_event (events.Rand node value) same = quiet (events.Rand node value) same (rand_quiet network w node value)
+    by_event (events.RandomOctets node value) same = quiet (events.RandomOctets node value) same (rand_quiet network w node value)
     by_event (events.Coordinator eui key) same = other (events.Coordinator eui key) same refl
     by_event (events.Meter eui psk) same = other (events.Meter eui psk) same refl
     by_event (events.Depot node) same = other (events.Depot node) same refl
@@ -124,40 +124,40 @@ readies_only w x is readied = by_event x.event refl
 -- # The events of a recording
 
 -- what is told of entries that follow a recording
-told_all : List (ℕ × Entry) → Recording → List TaleEvent
+told_all : List (ℕ × Entry) → Recording → List RecordedEvent
 told_all [] r = []
-told_all (x ∷ xs) r = told_of x.0 x.1 r ∷ told_all xs (recorded x.0 x.1 r)
+told_all (x ∷ xs) r = event_of_entry x.0 x.1 r ∷ told_all xs (recording_after x.0 x.1 r)
 
 all_told : (xs : List (ℕ × Entry)) (r : Recording) → (recorded_all xs r).events ≡ r.events ++ told_all xs r
 unfolding told_all
 all_told [] r = sym (append-nil r.events)
 all_told (x ∷ xs) r =
-    all_told xs (recorded x.0 x.1 r) ∙ ap (λ (es : List TaleEvent). es ++ told_all xs (recorded x.0 x.1 r)) (recorded_told x.0 x.1 r)
-    ∙ append_assoc r.events (told_of x.0 x.1 r ∷ []) (told_all xs (recorded x.0 x.1 r))
+    all_told xs (recording_after x.0 x.1 r) ∙ ap (λ (es : List RecordedEvent). es ++ told_all xs (recording_after x.0 x.1 r)) (recording_events x.0 x.1 r)
+    ∙ append_assoc r.events (event_of_entry x.0 x.1 r ∷ []) (told_all xs (recording_after x.0 x.1 r))
 
 told_through : (before after : List (ℕ × Entry)) (r : Recording) → told_all (before ++ after) r ≡ told_all before r ++ told_all after (recorded_all before r)
 unfolding told_all
 told_through [] after r = refl
-told_through (x ∷ xs) after r = ap (λ (es : List TaleEvent). told_of x.0 x.1 r ∷ es) (told_through xs after (recorded x.0 x.1 r))
+told_through (x ∷ xs) after r = ap (λ (es : List RecordedEvent). event_of_entry x.0 x.1 r ∷ es) (told_through xs after (recording_after x.0 x.1 r))
 
 told_count : (xs : List (ℕ × Entry)) (r : Recording) → length (told_all xs r) ≡ length xs
 unfolding told_all
 told_count [] r = refl
-told_count (x ∷ xs) r = ap suc (told_count xs (recorded x.0 x.1 r))
+told_count (x ∷ xs) r = ap suc (told_count xs (recording_after x.0 x.1 r))
 
 told_sends : (xs : List (ℕ × Entry)) (r : Recording) → sends_in (told_all xs r) ≡ sends_among (entries_in xs)
 unfolding told_all
 told_sends [] r = refl
 told_sends (x ∷ xs) r =
-    ap (λ (n : ℕ). (if sends (act_of x.1.event) (answer_of x.1) then 1 else 0) + n) (told_sends xs (recorded x.0 x.1 r))
+    ap (λ (n : ℕ). (if sends (act_of x.1.event) (answer_of x.1) then 1 else 0) + n) (told_sends xs (recording_after x.0 x.1 r))
 
 told_up : (xs : List (ℕ × Entry)) (r : Recording) (send n : ℕ) → first_up send n (told_all xs r) ≡ first_handing_up send n (entries_in xs)
 unfolding told_all
 told_up [] r send n = refl
 told_up (x ∷ xs) r send n =
-    ap (λ (o : Option ℕ). if is_of (note_of x.1.trace.happenings.up) send then Some n else o) (told_up xs (recorded x.0 x.1 r) send (n + 1))
+    ap (λ (o : Option ℕ). if is_of (note_of x.1.trace.happenings.up) send then Some n else o) (told_up xs (recording_after x.0 x.1 r) send (n + 1))
 
-all_more : (e : TaleEvent) (es : List TaleEvent) → ReadiesOnly e → All ReadiesOnly es → All ReadiesOnly (e ∷ es)
+all_more : (e : RecordedEvent) (es : List RecordedEvent) → ReadiesOnly e → All ReadiesOnly es → All ReadiesOnly (e ∷ es)
 all_more e es one rest zero d inside = one
 all_more e es one rest (suc k) d inside = rest k d (omega (arith, inside))
 
@@ -165,8 +165,8 @@ told_only : (xs : List (ℕ × Entry)) (r : Recording) (w : World) → IsRun net
 unfolding told_all
 told_only [] r w is = λ k d inside. absurd (omega (arith, inside))
 told_only (x ∷ xs) r w is =
-    all_more (told_of x.0 x.1 r) (told_all xs (recorded x.0 x.1 r)) (λ readied. ap note_of (readies_only w x.1 is.2 readied))
-    (told_only xs (recorded x.0 x.1 r) x.1.after is.3)
+    all_more (event_of_entry x.0 x.1 r) (told_all xs (recording_after x.0 x.1 r)) (λ readied. ap note_of (readies_only w x.1 is.2 readied))
+    (told_only xs (recording_after x.0 x.1 r) x.1.after is.3)
 
 -- the world after a part of a run, and the run from there
 run_from : (before after : List (ℕ × Entry)) (w : World) → IsRun network w (entries_in (before ++ after))
@@ -179,8 +179,8 @@ unfolding told_all
 datagrams_came_as_said before after row x from to datagram run is_send taken =
     let r = recorded_all before no_recording in
     let all = recorded_all (before ++ ((row, x) ∷ after)) no_recording in
-    let e = told_of row x r in
-    let rest = told_all after (recorded row x r) in
+    let e = event_of_entry row x r in
+    let rest = told_all after (recording_after row x r) in
     let here = run_from before ((row, x) ∷ after) start run in
     let events_so : all.events ≡ told_all before no_recording ++ (e ∷ rest) =
     all_told (before ++ ((row, x) ∷ after)) no_recording ∙ told_through before ((row, x) ∷ after) no_recording in
@@ -191,7 +191,7 @@ datagrams_came_as_said before after row x from to datagram run is_send taken =
     let count : sends_in (told_all before no_recording) ≡ sends_among (entries_in before) = told_sends before no_recording in
     let place : length (told_all before no_recording) ≡ length before = told_count before no_recording in
     let up : (send n : ℕ) → first_up send n (e ∷ rest) ≡ first_handing_up send n (x ∷ entries_in after) = λ send n. told_up ((row, x) ∷ after) r send n in
-    subst (λ (es : List TaleEvent). IsDatagramStory (sends_among (entries_in before) + 1) (length before + 1)
+    subst (λ (es : List RecordedEvent). IsDatagramStory (sends_among (entries_in before) + 1) (length before + 1)
     (first_handing_up (sends_among (entries_in before) + 1) (length before + 1) (x ∷ entries_in after)) e (stories_of es all.flights)) (sym events_so)
     (subst (λ (o : Option ℕ). IsDatagramStory (sends_among (entries_in before) + 1) (length before + 1) o e
     (stories_of (told_all before no_recording ++ (e ∷ rest)) all.flights)) (up (sends_among (entries_in before) + 1) (length before + 1))

@@ -1,12 +1,12 @@
-mod Told
+mod SentencesTrue
 pub mod Checks
-pub mod Running
-pub mod Stepping
+pub mod CheckedRuns
+pub mod CheckSteps
 pub mod Turns
 pub mod BadBound
 pub mod Captured
 pub mod Explained
-pub mod Looking
+pub mod ShownNodes
 pub mod Machines
 pub mod PageNests
 pub mod Paged

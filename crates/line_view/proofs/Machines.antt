@@ -14,8 +14,8 @@ use Rattle.line_events.specs.declared.event.Event.{Event}
 use Rattle.line_script.specs.declared.reading.Reading.{Reading}
 use Rattle.line_script.specs.declared.reading.Reading.TheVariants.{Quiet}
 use Rattle.line_script.specs.declared.report.Reason.{Reason}
-use Rattle.line_script.specs.Readings.{reading}
-use Rattle.script_runs.specs.Takings.{Taking, Skipped, Taken, Refused, reading_taking, taking}
+use Rattle.line_script.specs.LineReader.{reading}
+use Rattle.script_runs.specs.TakenLines.{Taking, Skipped, Taken, Refused, reading_taking, taking}
 use Rattle.line_view.specs.Recordings.{Recording, Recorded}
 use Rattle.line_view.specs.RunMachines.{RunRules, Stepped, refused_text, turn_by, turn_of}
 use Rattle.line_view.proofs.Turns.{nothing_appended, room_of}

@@ -7,9 +7,9 @@ use Rattle.script_lines.specs.declared.window.TheConstants.{WINDOW}
 use Rattle.script_lines.specs.Lines.{Content, Line, lines}
 use Rattle.script_lines.specs.Outcomes.{Turn, Skips, Takes, Stops, Outcome, StopsShortOf, outcome_turn, outcome_from}
 use Rattle.script_lines.specs.Clauses.{Comes}
-use Rattle.script_runs.specs.Takings.{Taking, Skipped, Taken, Refused, taking}
+use Rattle.script_runs.specs.TakenLines.{Taking, Skipped, Taken, Refused, taking}
 use Rattle.line_stories.specs.Stories.{Stories, stories_of}
-use Rattle.line_tale.specs.Verdicts.{ends_of}
+use Rattle.line_record.specs.Verdicts.{ends_of}
 use Rattle.run_pages.specs.Pages.{IsPage, Sheet}
 use Rattle.run_pages.proofs.PageNests.{page_nests}
 use Rattle.story_accounts.specs.Indexes.{index_of}
@@ -18,56 +18,56 @@ use Rattle.line_view.specs.declared.bad_line.BadLine.{BadLine}
 use Rattle.program_ends.specs.declared.status.Status.{Status}
 use Rattle.program_ends.specs.declared.status.Status.TheVariants as status
 use Rattle.program_ends.specs.Statuses.{status_of}
-use Rattle.line_view.specs.Paging.{Paging, chart_run, finding, nothing_paged, page_text, paged, rules, sheet_with}
+use Rattle.line_view.specs.PageRuns.{PageRun, chart_run, finding, nothing_paged, page_text, paged, rules, sheet_with}
 use Rattle.line_view.specs.RunMachines.{end_of, found_status, turn_by, turn_of}
 use Rattle.line_view.specs.Tool.{Accounts, IsWhole}
 
 -- # A page
 
-pages_are : (p : Paging) (bad : Option BadLine) → IsPage (page_text p bad)
+pages_are : (p : PageRun) (bad : Option BadLine) → IsPage (page_text p bad)
 unfolding page_text
 pages_are p bad =
     let s : Stories = stories_of p.run.events p.run.flights in
-    let sheet : Sheet = sheet_with p s (bad_words bad) (ends_of (length s.stories) s.lots)
-    (index_of (length s.stories) (length p.run.euis) p.run.events p.run.flights s.lots s.sent s.owners) in
+    let sheet : Sheet = sheet_with p s (bad_words bad) (ends_of (length s.stories) s.courses)
+    (index_of (length s.stories) (length p.run.euis) p.run.events p.run.flights s.courses s.sent s.owners) in
     page_nests sheet (chart_run p s)
 
 -- # The outcome of a script
 
 -- what a turn writes before the end, nothing or a whole page
-abbrev Writes : Turn Paging → Type 0
+abbrev Writes : Turn PageRun → Type 0
 Writes Skips = Unit {0}
 Writes (Takes next text) = text ≡ []
 Writes (Stops text) = IsPage text
 
-writes_by : (p : Paging) (row : ℕ) (c : Content) (t : Taking) → Writes (turn_by rules p row c t)
+writes_by : (p : PageRun) (row : ℕ) (c : Content) (t : Taking) → Writes (turn_by rules p row c t)
 writes_by p row c Skipped = refl
 writes_by p row c (Taken entry) = refl
 writes_by p row c (Refused reason) = pages_are p (Some (record { row = row; reason = reason }))
 
-fine_by : (p : Paging) (line : Line) (u : Turn Paging) (rest : Paging → Outcome Paging) → Writes u → ((next : Paging) → IsPage (rest next).text)
+fine_by : (p : PageRun) (line : Line) (u : Turn PageRun) (rest : PageRun → Outcome PageRun) → Writes u → ((next : PageRun) → IsPage (rest next).text)
     → IsPage (outcome_turn p line u rest).text
 fine_by p line Skips rest w all = all p
 fine_by p line (Takes next text) rest w all = subst (λ (x : List ℕ). IsPage (x ++ (rest next).text)) (sym w) (all next)
 fine_by p line (Stops text) rest w all = w
 
 -- to the end of the input
-fine_from : (ls : List Line) (p : Paging) → IsPage (outcome_from (turn_of rules) (end_of rules) p ls true).text
+fine_from : (ls : List Line) (p : PageRun) → IsPage (outcome_from (turn_of rules) (end_of rules) p ls true).text
 unfolding outcome_from
 fine_from [] p = pages_are p None
 fine_from (line ∷ ls) p =
     fine_by p line (turn_of rules p line.number line.content) (λ next. outcome_from (turn_of rules) (end_of rules) next ls true)
     (writes_by p line.number line.content (taking p.run.world line.content)) (fine_from ls)
 
-bad_by : (ahead : ℕ) (p : Paging) (line : Line) (u : Turn Paging) (rest : Paging → Outcome Paging) → Writes u
-    → ((next : Paging) → StopsShortOf ahead (rest next).ending → IsPage (rest next).text) → StopsShortOf ahead (outcome_turn p line u rest).ending
+bad_by : (ahead : ℕ) (p : PageRun) (line : Line) (u : Turn PageRun) (rest : PageRun → Outcome PageRun) → Writes u
+    → ((next : PageRun) → StopsShortOf ahead (rest next).ending → IsPage (rest next).text) → StopsShortOf ahead (outcome_turn p line u rest).ending
     → IsPage (outcome_turn p line u rest).text
 bad_by ahead p line Skips rest w all stops = all p stops
 bad_by ahead p line (Takes next text) rest w all stops = subst (λ (x : List ℕ). IsPage (x ++ (rest next).text)) (sym w) (all next stops)
 bad_by ahead p line (Stops text) rest w all stops = w
 
 -- to a bad line
-bad_from : (ahead : ℕ) (ls : List Line) (p : Paging) (ended : Bool) → StopsShortOf ahead (outcome_from (turn_of rules) (end_of rules) p ls ended).ending
+bad_from : (ahead : ℕ) (ls : List Line) (p : PageRun) (ended : Bool) → StopsShortOf ahead (outcome_from (turn_of rules) (end_of rules) p ls ended).ending
     → IsPage (outcome_from (turn_of rules) (end_of rules) p ls ended).text
 unfolding outcome_from
 bad_from ahead [] p true stops = absurd stops
@@ -78,7 +78,7 @@ bad_from ahead (line ∷ ls) p ended stops =
 
 -- # What was written
 
-well_by : (source0 source1 : SourceState) (sink0 sink1 : SinkState) (last : Paging) (b w : List ℕ) (exit : Exit) (found : Status)
+well_by : (source0 source1 : SourceState) (sink0 sink1 : SinkState) (last : PageRun) (b w : List ℕ) (exit : Exit) (found : Status)
     → Comes paged last source0 source1 sink0 sink1 b w exit → IsWhole (status_of exit true found) → IsPage w
 well_by source0 source1 sink0 sink1 last b w exits.Fine found comes whole = subst IsPage (sym comes.2) (fine_from (lines b true) nothing_paged)
 well_by source0 source1 sink0 sink1 last b w exits.BadScript found comes whole =

@@ -12,12 +12,12 @@ use Rattle.node_rules.specs.Ciphers.{network}
 use Rattle.line_rules.specs.Worlds.{World}
 use Rattle.line_rules.specs.Further.{line_step}
 use Rattle.line_rules.specs.Runs.{Entry}
-use Rattle.line_tale.specs.declared.told.TaleEvent.{TaleEvent}
-use Rattle.line_tale.specs.Tales.{numbered}
+use Rattle.line_record.specs.declared.recorded.RecordedEvent.{RecordedEvent}
+use Rattle.line_record.specs.RunRecords.{numbered}
 use Rattle.line_world.specs.Steps.{Takes}
-use Rattle.script_runs.specs.Takings.{event_taking}
-use Rattle.line_view.specs.Recordings.{Recording, Recorded, event_recorded, flight_recorded, flights_recorded, in_world, recorded}
-use Rattle.line_view.specs.Recordings.{told_of, with_octets}
+use Rattle.script_runs.specs.TakenLines.{event_taking}
+use Rattle.line_view.specs.Recordings.{Recording, Recorded, event_recorded, flight_recorded, flights_recorded, in_world, recording_after}
+use Rattle.line_view.specs.Recordings.{event_of_entry, with_octets}
 
 -- an event was taken and recorded
 pub event_kept : (row before : ℕ) (r0 r1 : Recording) (next : World) (e : Event) (h : Happenings) → r0.world.events < MAX_EVENTS
@@ -54,27 +54,27 @@ flights_world : (before n : ℕ) (r : Recording) → (flights_recorded before n 
 flights_world before zero r = refl
 flights_world before (suc n) r = flight_world _ (flights_recorded before n r) ∙ flights_world before n r
 
-pub recorded_world : (row : ℕ) (entry : Entry) (r : Recording) → (recorded row entry r).world ≡ entry.after
+pub recorded_world : (row : ℕ) (entry : Entry) (r : Recording) → (recording_after row entry r).world ≡ entry.after
 unfolding event_recorded
 recorded_world row entry r = flights_world (length r.world.flights) _ _
 
 -- # A recording has its last entry last
 
-with_told : (o : Option (List ℕ)) (number from note : ℕ) (key : Option Key) (r : Recording) → (with_octets o number from note key r).events ≡ r.events
-with_told None number from note key r = refl
-with_told (Some octets) number from note key r = refl
+with_octets_events : (o : Option (List ℕ)) (number from note : ℕ) (key : Option Key) (r : Recording) → (with_octets o number from note key r).events ≡ r.events
+with_octets_events None number from note key r = refl
+with_octets_events (Some octets) number from note key r = refl
 
-flight_told : (number : ℕ) (r : Recording) → (flight_recorded number r).events ≡ r.events
+flight_keeps_events : (number : ℕ) (r : Recording) → (flight_recorded number r).events ≡ r.events
 unfolding flight_recorded
-flight_told number r = with_told _ _ _ _ _ r
+flight_keeps_events number r = with_octets_events _ _ _ _ _ r
 
-flights_told : (before n : ℕ) (r : Recording) → (flights_recorded before n r).events ≡ r.events
-flights_told before zero r = refl
-flights_told before (suc n) r = flight_told _ (flights_recorded before n r) ∙ flights_told before n r
+flights_keep_events : (before n : ℕ) (r : Recording) → (flights_recorded before n r).events ≡ r.events
+flights_keep_events before zero r = refl
+flights_keep_events before (suc n) r = flight_keeps_events _ (flights_recorded before n r) ∙ flights_keep_events before n r
 
-pub recorded_told : (row : ℕ) (entry : Entry) (r : Recording) → (recorded row entry r).events ≡ r.events ++ (told_of row entry r ∷ [])
+pub recording_events : (row : ℕ) (entry : Entry) (r : Recording) → (recording_after row entry r).events ≡ r.events ++ (event_of_entry row entry r ∷ [])
 unfolding event_recorded
-recorded_told row entry r = flights_told (length r.world.flights) _ _
+recording_events row entry r = flights_keep_events (length r.world.flights) _ _
 
 more : {A : Type 0} (xs : List A) (x : A) → length (xs ++ (x ∷ [])) ≡ suc (length xs)
 more [] x = refl
@@ -93,9 +93,9 @@ last_at xs x k e =
     ∙ ap (λ (j : ℕ). slice_get (xs ++ (x ∷ [])) j) (omega (arith, e))
     ∙ get_last xs x
 
--- what is told last is that of the entry that was recorded last
+-- what is recorded last is that of the entry that was recorded last
 pub last_recorded : (row : ℕ) (entry : Entry) (r : Recording)
-    → numbered (recorded row entry r).events (length (recorded row entry r).events) ≡ Some (told_of row entry r)
+    → numbered (recording_after row entry r).events (length (recording_after row entry r).events) ≡ Some (event_of_entry row entry r)
 last_recorded row entry r =
-    ap (λ (es : List TaleEvent). numbered es (length es)) (recorded_told row entry r)
-    ∙ last_at r.events (told_of row entry r) (length (r.events ++ (told_of row entry r ∷ []))) (more r.events (told_of row entry r))
+    ap (λ (es : List RecordedEvent). numbered es (length es)) (recording_events row entry r)
+    ∙ last_at r.events (event_of_entry row entry r) (length (r.events ++ (event_of_entry row entry r ∷ []))) (more r.events (event_of_entry row entry r))

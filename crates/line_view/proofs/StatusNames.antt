@@ -9,7 +9,7 @@ use Rattle.script_lines.specs.Lines.{Content, Line, lines}
 use Rattle.script_lines.specs.Outcomes.{Turn, Skips, Takes, Stops, Bad, Ended, Outcome, outcome_turn, outcome_from, StopsShortOf}
 use Rattle.script_lines.specs.Clauses.{Comes}
 use Rattle.line_rules.specs.Worlds.{World}
-use Rattle.script_runs.specs.Takings.{Taking, Skipped, Taken, Refused, taking, BadLine, bad_by, first_bad_from, first_bad}
+use Rattle.script_runs.specs.TakenLines.{Taking, Skipped, Taken, Refused, taking, BadLine, bad_by, first_bad_from, first_bad}
 use Rattle.program_ends.specs.declared.status.Status.{Status}
 use Rattle.program_ends.specs.declared.status.Status.TheVariants as status
 use Rattle.program_ends.specs.Statuses.{status_of}

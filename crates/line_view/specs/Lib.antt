@@ -1,11 +1,11 @@
 pub mod Truths
 pub mod BadLines
-pub mod Explaining
+pub mod ExplainRuns
 pub mod Recordings
 pub mod RunMachines
 pub mod Sentences
-pub mod Checking
-pub mod Capturing
-pub mod Paging
+pub mod CheckRuns
+pub mod CaptureRuns
+pub mod PageRuns
 pub mod Checked
 pub mod Tool

@@ -1,4 +1,4 @@
--- A run, recorded while it is made: the world, and the tale of what its events did.
+-- A run, recorded while it is made: the world, and the record of what its events did.
 use Rattle.std.specs.Prelude.{◌≡◌, ℕ, Bool, true, false, ◌+◌, ◌-◌, zero, suc, List, [], ◌∷◌, ◌++◌, length, Option, None, Some, if◌then◌else◌}
 use Rattle.std.specs.Option.{option_and_then, option_map, unwrap_or}
 use Rattle.std.specs.Str.{bytes_eq}
@@ -8,7 +8,7 @@ use Rattle.frame_words.specs.Gists.{frame_target}
 use Rattle.frame_details.specs.declared.detail.FlightMore.{FlightMore}
 use Rattle.frame_details.specs.Details.{more_of}
 use Rattle.frame_details.specs.Payloads.{carried_of}
-use Rattle.line_tale.specs.Counters.{counters_with, flight_with}
+use Rattle.line_record.specs.Counters.{counters_with, flight_with}
 use Rattle.sentence_parts.specs.Whos.{device_of}
 use Rattle.line_events.specs.declared.event.Answer.{Answer}
 use Rattle.line_events.specs.declared.event.Answer.TheVariants as answers
@@ -16,19 +16,19 @@ use Rattle.line_events.specs.declared.event.Event.{Event}
 use Rattle.line_events.specs.declared.event.Event.TheVariants as events
 use Rattle.line_events.specs.declared.happenings.Happenings.{Happenings}
 use Rattle.line_script.specs.declared.report.Reason.{Reason}
-use Rattle.line_tale.specs.declared.told.TaleEvent.{TaleEvent}
-use Rattle.line_tale.specs.declared.told.TaleFlight.{TaleFlight}
-use Rattle.line_tale.specs.Tales.{event_told, flight_told}
+use Rattle.line_record.specs.declared.recorded.RecordedEvent.{RecordedEvent}
+use Rattle.line_record.specs.declared.recorded.RecordedFlight.{RecordedFlight}
+use Rattle.line_record.specs.RunRecords.{recorded_event, recorded_flight}
 use Rattle.line_rules.specs.Runs.{Entry}
 use Rattle.line_rules.specs.Worlds.{Flight, World, flight_at, start}
-use Rattle.script_runs.specs.Takings.{Taking, Skipped, Taken, Refused}
+use Rattle.script_runs.specs.TakenLines.{Taking, Skipped, Taken, Refused}
 
 pub record Recording : Type 0 where
   -- the world after the last event
   pub world : World
   -- the events and the flights, by their numbers from 1
-  pub events : List TaleEvent
-  pub flights : List TaleFlight
+  pub events : List RecordedEvent
+  pub flights : List RecordedFlight
   -- what the flights carry that no story goes by
   pub more : List FlightMore
   -- which flight was sealed with which counter
@@ -57,7 +57,7 @@ key_at w number = option_and_then (λ (f : Flight). f.key) (flight_at w number)
 abbrev pub with_payload : ℕ → ℕ → ℕ → List ℕ → Option (List ℕ) → Recording → Recording
 with_payload number from note octets payload r =
     record r {
-      flights = r.flights ++ (flight_told from note octets payload (device_of (frame_target octets) payload r.euis) ∷ []);
+      flights = r.flights ++ (recorded_flight from note octets payload (device_of (frame_target octets) payload r.euis) ∷ []);
       more = r.more ++ (more_of octets payload ∷ []);
       counters = counters_with number (more_of octets payload) r.counters;
     }
@@ -71,7 +71,7 @@ unfoldable pub flight_recorded : ℕ → Recording → Recording
 flight_recorded number r =
     with_octets (octets_at r.world number) number (sender_at r.world number) (note_at r.world number) (key_at r.world number) r
 
--- with so many flights after the one of this number
+-- with this many flights after the one of this number
 abbrev pub flights_recorded : ℕ → ℕ → Recording → Recording
 flights_recorded before zero r = r
 flights_recorded before (suc n) r = flight_recorded (before + n + 1) (flights_recorded before n r)
@@ -114,11 +114,11 @@ same_flight _ r = 0
 abbrev pub with_event : ℕ → Event → Happenings → Recording → Recording
 with_event row event happenings r =
     record r {
-      events = r.events ++ (event_told row event happenings r.world.clock (same_flight event r) ∷ []);
+      events = r.events ++ (recorded_event row event happenings r.world.clock (same_flight event r) ∷ []);
       euis = with_eui (made_eui event) r.euis;
     }
 
--- with an event that a line of this number asked for, which made the world what it is, and the flights after so many
+-- with an event that a line of this number asked for, which made the world what it is, and the flights after this many
 unfoldable pub event_recorded : ℕ → Event → Happenings → ℕ → Recording → Recording
 event_recorded row event happenings before r =
     flights_recorded before (length r.world.flights - before) (with_event row event happenings r)
@@ -127,13 +127,13 @@ abbrev pub in_world : World → Recording → Recording
 in_world w r = record r { world = w }
 
 -- what is told of an entry
-abbrev pub told_of : ℕ → Entry → Recording → TaleEvent
-told_of row entry r =
-    event_told row entry.event entry.trace.happenings entry.after.clock (same_flight entry.event (in_world entry.after r))
+abbrev pub event_of_entry : ℕ → Entry → Recording → RecordedEvent
+event_of_entry row entry r =
+    recorded_event row entry.event entry.trace.happenings entry.after.clock (same_flight entry.event (in_world entry.after r))
 
 -- with an entry of a script
-abbrev pub recorded : ℕ → Entry → Recording → Recording
-recorded row entry r =
+abbrev pub recording_after : ℕ → Entry → Recording → Recording
+recording_after row entry r =
     event_recorded row entry.event entry.trace.happenings (length r.world.flights) (in_world entry.after r)
 
 -- # Lines
@@ -141,5 +141,5 @@ recorded row entry r =
 -- an event was taken and recorded, or it was not, for a reason
 abbrev pub Recorded : ℕ → Event → Recording → Recording → Taking → Option Reason → Type 0
 Recorded row event old new Skipped reason = ⊥
-Recorded row event old new (Taken entry) reason = (reason ≡ None) × ((entry.event ≡ event) × (new ≡ recorded row entry old))
+Recorded row event old new (Taken entry) reason = (reason ≡ None) × ((entry.event ≡ event) × (new ≡ recording_after row entry old))
 Recorded row event old new (Refused why) reason = (reason ≡ Some why) × (new ≡ old)

@@ -6,8 +6,8 @@ use Rattle.script_lines.specs.Outcomes.{Turn, Skips, Takes, Stops, Outcome, outc
 use Rattle.line_script.specs.declared.report.Reason.{Reason}
 use Rattle.line_rules.specs.Runs.{Entry}
 use Rattle.line_rules.specs.Worlds.{World, start}
-use Rattle.script_runs.specs.Takings.{Taking, Skipped, Taken, Refused}
-unfoldable use Rattle.script_runs.specs.Takings.{taking}
+use Rattle.script_runs.specs.TakenLines.{Taking, Skipped, Taken, Refused}
+unfoldable use Rattle.script_runs.specs.TakenLines.{taking}
 use Rattle.program_ends.specs.declared.status.Status.{Status}
 use Rattle.program_ends.specs.declared.status.Status.TheVariants as status
 use Rattle.line_view.specs.declared.bad_line.BadLine.{BadLine}

@@ -7,19 +7,19 @@ use Rattle.node_rules.specs.Memory.{Node}
 use Rattle.node_rules.specs.declared.shown.Shown.{Shown}
 use Rattle.node_rules.specs.declared.shown.ShownPeer.{ShownPeer}
 use Rattle.node_rules.specs.declared.shown.ShownRoute.{ShownRoute}
-use Rattle.node_rules.specs.Showing.{nothing_shown, shown_of}
+use Rattle.node_rules.specs.ShownNodes.{nothing_shown, shown_of}
 use Rattle.line_events.specs.declared.event.Answer.{Answer}
 use Rattle.line_events.specs.declared.event.Event.{Event}
 use Rattle.line_events.specs.declared.event.Event.TheVariants as events
 use Rattle.line_rules.specs.Worlds.{World, node_at}
 use Rattle.frame_details.specs.declared.detail.FlightMore.{FlightMore}
-use Rattle.line_tale.specs.declared.act.Act.{Act}
-use Rattle.line_tale.specs.declared.act.Act.TheVariants as acts
-use Rattle.line_tale.specs.declared.told.TaleEvent.{TaleEvent}
-use Rattle.line_tale.specs.declared.told.TaleFlight.{TaleFlight}
-use Rattle.line_tale.specs.Kinds.{actor_of, is_for_another, makes_node}
-use Rattle.line_tale.specs.Lists.{changed_place}
-use Rattle.line_tale.specs.Tales.{made_by, numbered}
+use Rattle.line_record.specs.declared.act.Act.{Act}
+use Rattle.line_record.specs.declared.act.Act.TheVariants as acts
+use Rattle.line_record.specs.declared.recorded.RecordedEvent.{RecordedEvent}
+use Rattle.line_record.specs.declared.recorded.RecordedFlight.{RecordedFlight}
+use Rattle.line_record.specs.Kinds.{actor_of, is_for_another, makes_node}
+use Rattle.line_record.specs.Lists.{changed_place}
+use Rattle.line_record.specs.RunRecords.{made_by, numbered}
 use Rattle.line_stories.specs.Stories.{homes_with, newcomer}
 use Rattle.sentence_parts.specs.declared.part.Who.{Who}
 use Rattle.sentence_parts.specs.declared.part.Who.TheVariants as whos
@@ -66,7 +66,7 @@ abbrev pub marks_with : Bool → List (List ShownPeer) → List (List ShownPeer)
 marks_with true marks = marks ++ ([] ∷ [])
 marks_with false marks = marks
 
-unfoldable pub learned : Event → TaleEvent → Sentences → Sentences
+unfoldable pub learned : Event → RecordedEvent → Sentences → Sentences
 learned event e s =
     record s {
       homes = homes_with (newcomer (length s.homes) e.act e.answer e.address) s.homes;
@@ -77,7 +77,7 @@ learned event e s =
 
 -- # The frame that came
 
-abbrev pub flight_came : ℕ → Option (List ℕ) → Option Key → Option TaleFlight → Option FlightMore → List ℕ → List Eui → Option Heard
+abbrev pub flight_came : ℕ → Option (List ℕ) → Option Key → Option RecordedFlight → Option FlightMore → List ℕ → List Eui → Option Heard
 flight_came number (Some octets) key (Some flight) (Some more) homes euis = Some (heard_flight number octets key flight more homes euis)
 flight_came number _ key _ _ homes euis = None
 
@@ -96,7 +96,7 @@ is_at (whos.Node node) place = node == place
 is_at _ place = false
 
 -- whether a frame came to a node that it is not for
-abbrev pub is_hushed : Option Heard → TaleEvent → Bool
+abbrev pub is_hushed : Option Heard → RecordedEvent → Bool
 is_hushed None e = false
 is_hushed (Some heard) e = is_for_another e.answer && not (is_at heard.to (actor_of e.act))
 
@@ -115,7 +115,7 @@ unfoldable pub look_at : ℕ → World → ℕ → List Watched → List Watched
 look_at event w place watches =
     if is_some (node_at w place) then looked_in event (shown_by (node_at w place)).routes place watches else watches
 
--- by what each of so many nodes shows
+-- by what each of this many nodes shows
 abbrev pub look_at_all : ℕ → World → ℕ → List Watched → List Watched
 look_at_all event w zero watches = watches
 look_at_all event w (suc place) watches = look_at event w place (look_at_all event w place watches)
@@ -135,14 +135,14 @@ abbrev pub ended_at : World → ℕ → List Watched → Bool
 ended_at w place watches =
     if is_some (node_at w place) then ended_in (slice_get watches place) (shown_by (node_at w place)).routes else false
 
-abbrev pub noted_at : ℕ → TaleEvent → List Watched → List Watched
+abbrev pub noted_at : ℕ → RecordedEvent → List Watched → List Watched
 noted_at event e watches =
     changed_place (slice_get watches (actor_of e.act)) (actor_of e.act) (noted e event) watches
 
 -- # One event
 
 -- with the words of an event, which is noted
-unfoldable pub ending : List ℕ → ℕ → TaleEvent → Sentences → Sentences
+unfoldable pub ending : List ℕ → ℕ → RecordedEvent → Sentences → Sentences
 ending words event e s =
     record s {
       sentences = s.sentences ++ (words ∷ []);
@@ -157,15 +157,15 @@ abbrev pub marks_set : ℕ → List ShownPeer → List (List ShownPeer) → List
 marks_set place peers marks = changed_place (slice_get marks place) place (shown_marks peers) marks
 
 -- with the looks at the nodes, and the marks that the node of the event shows
-abbrev pub with_looks : TaleEvent → World → List Watched → Sentences → Sentences
+abbrev pub with_looks : RecordedEvent → World → List Watched → Sentences → Sentences
 with_looks e w watches s =
     record s { watches = watches; marks = marks_set (actor_of e.act) (shown_by (node_at w (actor_of e.act))).peers s.marks }
 
 -- what the sentence goes by: what the node shows that the event is about, and whether a route of it ended
-abbrev pub scene : TaleEvent → Option Heard → Shown → Bool → Recording → Sentences → Scene
+abbrev pub scene : RecordedEvent → Option Heard → Shown → Bool → Recording → Sentences → Scene
 scene e heard shown ended r s =
     record {
-      told = e;
+      recorded = e;
       flights = made_by e r.flights;
       heard = heard;
       node = actor_of e.act;
@@ -178,28 +178,28 @@ scene e heard shown ended r s =
     }
 
 -- the words of an event, after the look at its node, and whether a route of that ended
-abbrev pub words_of : TaleEvent → Option Heard → Bool → Recording → Sentences → List ℕ
+abbrev pub words_of : RecordedEvent → Option Heard → Bool → Recording → Sentences → List ℕ
 words_of e heard ended r s = event_text (scene e heard (shown_by (node_at r.world (actor_of e.act))) ended r s)
 
-abbrev pub told_with : ℕ → TaleEvent → Option Heard → Bool → Recording → Sentences → Sentences
-told_with event e heard ended r s = ending (words_of e heard ended r s) event e s
+abbrev pub worded_with : ℕ → RecordedEvent → Option Heard → Bool → Recording → Sentences → Sentences
+worded_with event e heard ended r s = ending (words_of e heard ended r s) event e s
 
 -- an event that has words, after the looks at other nodes
-unfoldable pub worded : ℕ → TaleEvent → Option Heard → List Watched → Recording → Sentences → Sentences
+unfoldable pub worded : ℕ → RecordedEvent → Option Heard → List Watched → Recording → Sentences → Sentences
 worded event e heard watches r s =
-    told_with event e heard (ended_at r.world (actor_of e.act) watches) r
+    worded_with event e heard (ended_at r.world (actor_of e.act) watches) r
     (with_looks e r.world (look_at event r.world (actor_of e.act) watches) s)
 
-abbrev pub with_event : ℕ → TaleEvent → Option Heard → Recording → Sentences → Sentences
+abbrev pub with_event : ℕ → RecordedEvent → Option Heard → Recording → Sentences → Sentences
 with_event event e heard r s =
     if is_hushed heard e then ending [] event e s else worded event e heard (look_around event e.act r.world s.watches) r s
 
-unfoldable pub event_told : ℕ → Event → TaleEvent → Recording → Sentences → Sentences
-event_told number event e r s = with_event number e (heard_by event r (learned event e s)) r (learned event e s)
+unfoldable pub event_worded : ℕ → Event → RecordedEvent → Recording → Sentences → Sentences
+event_worded number event e r s = with_event number e (heard_by event r (learned event e s)) r (learned event e s)
 
-abbrev pub with_last : Option TaleEvent → Event → Recording → Sentences → Sentences
+abbrev pub with_last : Option RecordedEvent → Event → Recording → Sentences → Sentences
 with_last None event r s = s
-with_last (Some e) event r s = event_told (length r.events) event e r s
+with_last (Some e) event r s = event_worded (length r.events) event e r s
 
 -- with the sentence of the event that a run took last
 unfoldable pub with_sentence : Event → Recording → Sentences → Sentences

@@ -7,7 +7,7 @@ use Rattle.plc_base.specs.Streams.{SourceState, SinkState}
 use Rattle.script_lines.specs.declared.machine.Exit.{Exit}
 use Rattle.script_lines.specs.Clauses.{Drives}
 use Rattle.script_lines.specs.Outcomes.{Outcome}
-use Rattle.script_runs.specs.Takings.{first_bad}
+use Rattle.script_runs.specs.TakenLines.{first_bad}
 use Rattle.line_view.specs.declared.run_machine.Finding.{Finding}
 use Rattle.line_view.specs.RunMachines.{found_status}
 use Rattle.line_view.specs.declared.tool.Command.{Command}
@@ -16,16 +16,16 @@ use Rattle.program_ends.specs.declared.status.Status.{Status}
 use Rattle.program_ends.specs.declared.status.Status.TheVariants as status
 use Rattle.program_ends.specs.Runs.{Ran}
 use Rattle.program_ends.specs.Statuses.{status_of}
-use Rattle.line_view.specs.Checking.{is_bad, outcome}
+use Rattle.line_view.specs.CheckRuns.{is_bad, outcome}
 use Rattle.line_script.specs.Words.{number_within}
 use Rattle.story_accounts.specs.declared.section.Chosen.{Chosen}
 use Rattle.story_accounts.specs.declared.section.Chosen.TheVariants as chosens
-use Rattle.line_view.specs.Explaining.{explained, finding}
+use Rattle.line_view.specs.ExplainRuns.{explained, finding}
 use Rattle.line_view.specs.declared.capture.Wanted.{Wanted}
 use Rattle.line_view.specs.declared.capture.Wanted.TheVariants as wants
-use Rattle.line_view.specs.Capturing.{captured, finding as capture_finding}
+use Rattle.line_view.specs.CaptureRuns.{captured, finding as capture_finding}
 use Rattle.run_pages.specs.Pages.{IsPage}
-use Rattle.line_view.specs.Paging.{paged, finding as page_finding}
+use Rattle.line_view.specs.PageRuns.{paged, finding as page_finding}
 use Rattle.line_view.specs.Checked.{faults, first_of, faults_text, closing}
 
 -- what Wireshark reads, if a word asks for that

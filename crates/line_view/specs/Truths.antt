@@ -7,32 +7,32 @@ use Rattle.line_rules.specs.Runs.{Entry, IsRun}
 use Rattle.line_rules.specs.Worlds.{start}
 use Rattle.line_stories.specs.Laws.{IsDatagramStory, is_of}
 use Rattle.line_stories.specs.Stories.{stories_of}
-use Rattle.line_tale.specs.Acts.{act_of}
-use Rattle.line_tale.specs.Kinds.{actor_of, sends}
-use Rattle.line_tale.specs.Tales.{note_of}
+use Rattle.line_record.specs.Acts.{act_of}
+use Rattle.line_record.specs.Kinds.{actor_of, sends}
+use Rattle.line_record.specs.RunRecords.{note_of}
 use Rattle.event_sentences.specs.declared.claim.Deed.{Deed}
 use Rattle.event_sentences.specs.declared.heard.Heard.{Heard}
 use Rattle.event_sentences.specs.Claims.{deed_text}
 use Rattle.event_sentences.specs.Truth.{IsTrueOf, answer_of}
-use Rattle.line_view.specs.Recordings.{Recording, no_recording, recorded, told_of}
+use Rattle.line_view.specs.Recordings.{Recording, no_recording, recording_after, event_of_entry}
 use Rattle.line_view.specs.Sentences.{Sentences, heard_by, learned, with_sentence}
 
 -- the frame that came at an entry in a line of this number, which is the next one after a recording with these sentences
 abbrev pub frame_at : ℕ → Entry → Recording → Sentences → Option Heard
-frame_at row x r s = heard_by x.event (recorded row x r) (learned x.event (told_of row x r) s)
+frame_at row x r s = heard_by x.event (recording_after row x r) (learned x.event (event_of_entry row x r) s)
 
 -- where an entry handed up a datagram, its sentence is that of a claim which is true of the entry
-abbrev pub UpsAreTold : Type 0
-UpsAreTold = (row : ℕ) (x : Entry) (r : Recording) (s : Sentences) (heard : Heard) → answer_of x ≡ answers.Up → frame_at row x r s ≡ Some heard
+abbrev pub UpsAreWorded : Type 0
+UpsAreWorded = (row : ℕ) (x : Entry) (r : Recording) (s : Sentences) (heard : Heard) → answer_of x ≡ answers.Up → frame_at row x r s ≡ Some heard
     → (deed : Deed) × IsTrueOf x deed
-    × ((with_sentence x.event (recorded row x r) s).sentences ≡ s.sentences ++ (deed_text (actor_of (act_of x.event)) deed ∷ []))
+    × ((with_sentence x.event (recording_after row x r) s).sentences ≡ s.sentences ++ (deed_text (actor_of (act_of x.event)) deed ∷ []))
 
 -- # Whether a datagram came
 
 -- a recording with all entries of a run, each in a line of this number
 abbrev pub recorded_all : List (ℕ × Entry) → Recording → Recording
 recorded_all [] r = r
-recorded_all (x ∷ xs) r = recorded_all xs (recorded x.0 x.1 r)
+recorded_all (x ∷ xs) r = recorded_all xs (recording_after x.0 x.1 r)
 
 abbrev pub entries_in : List (ℕ × Entry) → List Entry
 entries_in lines = map (λ (x : ℕ × Entry). x.1) lines
@@ -53,5 +53,6 @@ DatagramsCameAsSaid = (before after : List (ℕ × Entry)) (row : ℕ) (x : Entr
     → IsRun network start (entries_in (before ++ ((row, x) ∷ after))) → x.event ≡ events.Send from to datagram
     → (answer_of x ≡ answers.Sent) ⊎ (answer_of x ≡ answers.Waiting)
     → IsDatagramStory (sends_among (entries_in before) + 1) (length before + 1)
-    (first_handing_up (sends_among (entries_in before) + 1) (length before + 1) (x ∷ entries_in after)) (told_of row x (recorded_all before no_recording))
+    (first_handing_up (sends_among (entries_in before) + 1) (length before + 1) (x ∷ entries_in after))
+    (event_of_entry row x (recorded_all before no_recording))
     (stories_of (recorded_all (before ++ ((row, x) ∷ after)) no_recording).events (recorded_all (before ++ ((row, x) ∷ after)) no_recording).flights)

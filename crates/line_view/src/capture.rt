@@ -3,17 +3,17 @@ ghost use Rattle.std.specs.Prelude.{◌≡◌, ◌↔◌, ◌++◌, ◌∷◌, �
 ghost use Rattle.std.specs.Option.{option_copied};
 ghost use Rattle.line_capture.specs.Captures.{IsFrame, run_of};
 ghost use Rattle.line_capture.specs.Places.{AreEvents, HasAct, IsAct};
-ghost use Rattle.line_tale.specs.Tales.{numbered};
-ghost use Rattle.line_tale.specs.declared.told.TaleEvent.{TaleEvent};
-ghost use Rattle.line_view.specs.Capturing as capturing;
+ghost use Rattle.line_record.specs.RunRecords.{numbered};
+ghost use Rattle.line_record.specs.declared.recorded.RecordedEvent.{RecordedEvent};
+ghost use Rattle.line_view.specs.CaptureRuns as capture_runs;
 
 use crate::bad_line::{BadLine, bad_words};
 use crate::recorder::{Recorder, is_drawn};
 use crate::run_machine::{Finding, RunMachine, forged_if};
 use line_capture::{DrawnKeys, Recording, addresses_text, capture_file, keys_text};
 use line_events::{Answer, Event, MAX_EVENTS};
+use line_record::{Act, RecordedEvent};
 use line_script::{Reason, Totals};
-use line_tale::{Act, TaleEvent};
 use line_world::{Buffers, World};
 use octet_log::OctetLog;
 use plc_base::{Key, KeyIndex, OctetRef};
@@ -38,7 +38,7 @@ pub enum Wanted {
 }
 
 fn totals_of(world: &World) -> Totals
-    ensures { result ≡ capturing.totals_of world.now }
+    ensures { result ≡ capture_runs.totals_of world.now }
 {
     let counts = world.counts();
     Totals {
@@ -67,7 +67,7 @@ fn push_frame<'a>(list: &mut Vec<OctetRef<'a>>, octets: Option<&'a [u8]>) -> Res
 
 // The octets of the flights, by their numbers from 1.
 fn flown<'a>(alloc: Global, world: &'a World) -> Result<Vec<OctetRef<'a>>, AllocError>
-    ensures octets { IfOk result (λ list. list.items ≡ capturing.octets_of world.now) }
+    ensures octets { IfOk result (λ list. list.items ≡ capture_runs.octets_of world.now) }
     ensures frames { IfOk result (λ list. All IsFrame list.items) }
 {
     let mut list = Vec::new(alloc);
@@ -101,7 +101,7 @@ fn keep_octets(log: &mut OctetLog, octets: &[u8]) -> Result<(), AllocError>
 
 // Keeps the octets of an event that no node sent, if it brings some.
 fn keep_injected(log: &mut OctetLog, event: &Event<'_>) -> Result<(), AllocError>
-    ensures { OnOk result (log.new.strings ≡ capturing.injected_with event.now log.old.strings) }
+    ensures { OnOk result (log.new.strings ≡ capture_runs.injected_with event.now log.old.strings) }
 {
     match event {
         Event::Inject { octets, .. } => keep_octets(log, octets.octets()),
@@ -118,11 +118,11 @@ fn is_act(act: &Act) -> bool
     }
 }
 
-fn are_acts(events: &[TaleEvent]) -> bool
+fn are_acts(events: &[RecordedEvent]) -> bool
     ensures { result ≡ true ↔ All HasAct events.now }
 {
-    for told in events {
-        if !is_act(&told.act) {
+    for recorded in events {
+        if !is_act(&recorded.act) {
             return false;
         }
     }
@@ -130,14 +130,14 @@ fn are_acts(events: &[TaleEvent]) -> bool
 }
 
 // Whether events are in the ranges of a script. Those of a run are.
-fn are_events(events: &[TaleEvent]) -> bool
+fn are_events(events: &[RecordedEvent]) -> bool
     ensures { result ≡ true ↔ AreEvents events.now }
 {
     events.len() <= MAX_EVENTS as usize && are_acts(events)
 }
 
 fn draw_key(keys: &mut DrawnKeys, index: KeyIndex, key: &Key) -> Result<(), AllocError>
-    ensures { OnOk result (keys.new ≡ capturing.with_key (index ∷ key.now.0) keys.old) }
+    ensures { OnOk result (keys.new ≡ capture_runs.with_key (index ∷ key.now.0) keys.old) }
 {
     keys.draw(index, key)?;
     Ok(())
@@ -149,7 +149,7 @@ fn draw_key_if(
     index: KeyIndex,
     key: &Key,
 ) -> Result<(), AllocError>
-    ensures { OnOk result (keys.new ≡ capturing.key_if holds (index ∷ key.now.0) keys.old) }
+    ensures { OnOk result (keys.new ≡ capture_runs.key_if holds (index ∷ key.now.0) keys.old) }
 {
     if !holds {
         return Ok(());
@@ -159,7 +159,7 @@ fn draw_key_if(
 
 // Keeps the key that an event draws, which was answered so.
 fn keep_key(keys: &mut DrawnKeys, event: &Event<'_>, answer: Answer) -> Result<(), AllocError>
-    ensures { OnOk result (keys.new ≡ capturing.keys_with event.now answer keys.old) }
+    ensures { OnOk result (keys.new ≡ capture_runs.keys_with event.now answer keys.old) }
 {
     match event {
         Event::Coordinator { key, .. } => draw_key(keys, KeyIndex::first(), key),
@@ -170,16 +170,16 @@ fn keep_key(keys: &mut DrawnKeys, event: &Event<'_>, answer: Answer) -> Result<(
 
 // Keeps the key that the last event of a run drew, which this is.
 fn keep_drawn(keys: &mut DrawnKeys, run: &Recorder, event: &Event<'_>) -> Result<(), AllocError>
-    ensures { OnOk result ((told : TaleEvent) → numbered run.now.events (length run.now.events) ≡ Some told
-        → keys.new ≡ capturing.keys_with event.now told.answer keys.old) }
+    ensures { OnOk result ((recorded : RecordedEvent) → numbered run.now.events (length run.now.events) ≡ Some recorded
+        → keys.new ≡ capture_runs.keys_with event.now recorded.answer keys.old) }
 {
-    let Some(told) = run.tale.event(run.tale.events.len()) else {
+    let Some(recorded) = run.run_record.event(run.run_record.events.len()) else {
         return Ok(());
     };
-    keep_key(keys, event, told.answer)
+    keep_key(keys, event, recorded.answer)
 }
 
-/// The run of a script, and what of it the tale does not have: the octets that no node sent, and the keys. It writes at its end what Wireshark reads
+/// The run of a script, and what of it the record does not have: the octets that no node sent, and the keys. It writes at its end what Wireshark reads
 /// of the run.
 #[derive(Drop)]
 pub struct Capture {
@@ -193,9 +193,9 @@ pub struct Capture {
 impl Model for Capture {
     ghost use Rattle.std.specs.Coded.{codes};
     ghost use Rattle.line_world.specs.WorldCodes.{world_code};
-    ghost use Rattle.line_view.specs.Capturing.{Capturing};
+    ghost use Rattle.line_view.specs.CaptureRuns.{CaptureRun};
 
-    ghost Value = { Capturing };
+    ghost Value = { CaptureRun };
 
     ghost coded = { Prim.hlevel (codes, world_code) };
 
@@ -205,7 +205,7 @@ impl Model for Capture {
 impl Capture {
     /// No line so far. It fails only where there is no memory for it.
     pub fn new(alloc: Global, wanted: Wanted) -> Result<Capture, AllocError>
-        ensures { IfOk result (λ capture. capture ≡ capturing.nothing_captured wanted) }
+        ensures { IfOk result (λ capture. capture ≡ capture_runs.nothing_captured wanted) }
     {
         let run = Recorder::new(alloc)?;
         Ok(Capture {
@@ -224,13 +224,13 @@ impl Capture {
         injected: &'a [OctetRef<'a>],
     ) -> Recording<'a>
         ensures run { run_of result ≡ record { events = self.now.run.events; flights = self.now.run.flights; octets = octets.now; injected = injected.now } }
-        ensures totals { result.totals ≡ capturing.totals_of self.now.run.world }
+        ensures totals { result.totals ≡ capture_runs.totals_of self.now.run.world }
         ensures euis { result.euis.now ≡ self.now.run.euis }
     {
         Recording {
             totals: totals_of(&self.run.world),
             euis: self.run.euis.as_slice(),
-            tale: &self.run.tale,
+            run_record: &self.run.run_record,
             octets,
             injected,
         }
@@ -240,11 +240,11 @@ impl Capture {
     fn frames(&self, heard: bool, remark: &str) -> Result<Vec<u8>, AllocError>
         requires { length remark.now ≤ 2000 }
         ensures { IfOk result (λ octets. octets.items
-            ≡ capturing.output_by (Wanted.Frames heard) self.now remark.now) }
+            ≡ capture_runs.output_by (Wanted.Frames heard) self.now remark.now) }
     {
         let octets = flown(self.alloc, &self.run.world)?;
         let injected = strings_of(self.alloc, &self.injected)?;
-        if !are_events(self.run.tale.events.as_slice()) {
+        if !are_events(self.run.run_record.events.as_slice()) {
             return Err(AllocError);
         }
         let recording = self.recording(octets.as_slice(), injected.as_slice());
@@ -254,7 +254,7 @@ impl Capture {
 
     // The addresses of all that sent a frame.
     fn addresses(&self) -> Result<Vec<u8>, AllocError>
-        ensures { IfOk result (λ octets. octets.items ≡ capturing.output_by Wanted.Addresses self.now []) }
+        ensures { IfOk result (λ octets. octets.items ≡ capture_runs.output_by Wanted.Addresses self.now []) }
     {
         let octets = flown(self.alloc, &self.run.world)?;
         let injected = strings_of(self.alloc, &self.injected)?;
@@ -264,17 +264,17 @@ impl Capture {
     }
 
     fn keys(&self) -> Result<Vec<u8>, AllocError>
-        ensures { IfOk result (λ octets. octets.items ≡ capturing.output_by Wanted.Keys self.now []) }
+        ensures { IfOk result (λ octets. octets.items ≡ capture_runs.output_by Wanted.Keys self.now []) }
     {
         let text = keys_text(self.alloc, &self.keys)?;
         Ok(text.into_bytes())
     }
 
     // What is written, with a remark where it is not empty.
-    #[tactic(auto, unfolding(crate::specs::Capturing::output_of))]
+    #[tactic(auto, unfolding(crate::specs::CaptureRuns::output_of))]
     fn written(&self, remark: &str) -> Result<Vec<u8>, AllocError>
         requires { length remark.now ≤ 2000 }
-        ensures { IfOk result (λ octets. octets.items ≡ capturing.output_of self.now remark.now) }
+        ensures { IfOk result (λ octets. octets.items ≡ capture_runs.output_of self.now remark.now) }
     {
         match self.wanted {
             Wanted::Frames { heard } => self.frames(heard, remark),
@@ -285,7 +285,7 @@ impl Capture {
 }
 
 impl RunMachine for Capture {
-    ghost rules = { capturing.rules };
+    ghost rules = { capture_runs.rules };
 
     // What the event adds is kept.
     fn step(

@@ -2,7 +2,7 @@
 ghost use Rattle.std.specs.Prelude.{◌≡◌, IfOk, string_bytes};
 ghost use Rattle.script_lines.specs.Clauses.{Turned};
 ghost use Rattle.script_lines.specs.Lines.{Text, Long, TooMuch};
-ghost use Rattle.line_view.specs.Checking.{checking, end_of, is_bad, stops_at_too_much, turn_of};
+ghost use Rattle.line_view.specs.CheckRuns.{checking, end_of, is_bad, stops_at_too_much, turn_of};
 
 use crate::bad_line::bad_line;
 use crate::checker::Checker;
@@ -26,9 +26,9 @@ pub struct Check {
 impl Model for Check {
     ghost use Rattle.std.specs.Coded.{codes};
     ghost use Rattle.line_world.specs.WorldCodes.{world_code};
-    ghost use Rattle.line_view.specs.Checking.{Checking};
+    ghost use Rattle.line_view.specs.CheckRuns.{CheckRun};
 
-    ghost Value = { Checking };
+    ghost Value = { CheckRun };
 
     ghost coded = { Prim.hlevel (codes, world_code) };
 

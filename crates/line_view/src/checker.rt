@@ -2,16 +2,16 @@
 ghost use Rattle.std.specs.Prelude.{◌≡◌, ◌==◌, ◌<◌, ◌^◌, ◌++◌, ◌∷◌, [], IfOk, OnOk, codes, if◌then◌else◌, length, string_bytes};
 ghost use Rattle.line_events.specs.Events.{IsEvent};
 ghost use Rattle.line_script.specs.declared.word.TheConstants.{LINE_OCTETS};
-ghost use Rattle.line_script.specs.Readings.{reading};
+ghost use Rattle.line_script.specs.LineReader.{reading};
 ghost use Rattle.event_faults.specs.EventFindings.{event_finding};
 ghost use Rattle.line_view.specs.Checked.{Looked, LooksLast, Stepped};
-ghost use Rattle.line_view.specs.Checking as spec_checking;
-ghost use Rattle.script_runs.specs.Takings.{event_taking};
+ghost use Rattle.line_view.specs.CheckRuns as spec_check_runs;
+ghost use Rattle.script_runs.specs.TakenLines.{event_taking};
 
 use event_faults::{BadEvent, FirstOther, Made};
 use line_events::{Event, MAX_EVENTS, StepFault};
+use line_record::{RecordedEvent, act_of, is_setup, recorded_event};
 use line_script::{Reading, Reason, read_line};
-use line_tale::{TaleEvent, act_of, event_told, is_setup};
 use line_world::{Buffers, World};
 use plc_base::Eui;
 use script_faults::{line_finding, word_of_reason};
@@ -32,12 +32,12 @@ pub struct Checker {
     // The world up to the first bad line, its nodes and its events.
     world: World,
     made: Vec<Made>,
-    events: Vec<TaleEvent>,
+    events: Vec<RecordedEvent>,
     other: FirstOther,
     // The lines so far, and those that are bad.
     rows: u32,
     bad: u32,
-    // The first bad line, 0 where there is none, and why it is bad.
+    // The first bad line, 0 if there is none, and why it is bad.
     first: u32,
     reason: Reason,
     // What the last event handed up.
@@ -47,9 +47,9 @@ pub struct Checker {
 impl Model for Checker {
     ghost use Rattle.std.specs.Coded.{codes};
     ghost use Rattle.line_world.specs.WorldCodes.{world_code};
-    ghost use Rattle.line_view.specs.Checking.{Checking};
+    ghost use Rattle.line_view.specs.CheckRuns.{CheckRun};
 
-    ghost Value = { Checking };
+    ghost Value = { CheckRun };
 
     ghost coded = { Prim.hlevel (codes, world_code) };
 
@@ -67,7 +67,7 @@ impl Model for Checker {
 }
 
 fn has_no_octets(reason: Reason) -> bool
-    ensures { result ≡ spec_checking.has_no_octets reason }
+    ensures { result ≡ spec_check_runs.has_no_octets reason }
 {
     match reason {
         Reason::Long => true,
@@ -76,9 +76,9 @@ fn has_no_octets(reason: Reason) -> bool
     }
 }
 
-#[tactic(auto, unfolding(crate::specs::Checking::long_finding))]
+#[tactic(auto, unfolding(crate::specs::CheckRuns::long_finding))]
 fn long_finding(alloc: Global) -> Result<Finding, AllocError>
-    ensures { IfOk result (λ f. f ≡ spec_checking.long_finding) }
+    ensures { IfOk result (λ f. f ≡ spec_check_runs.long_finding) }
 {
     let found = Finding::new(
         alloc,
@@ -93,9 +93,9 @@ fn long_finding(alloc: Global) -> Result<Finding, AllocError>
     )
 }
 
-#[tactic(auto, unfolding(crate::specs::Checking::input_finding))]
+#[tactic(auto, unfolding(crate::specs::CheckRuns::input_finding))]
 fn input_finding(alloc: Global) -> Result<Finding, AllocError>
-    ensures { IfOk result (λ f. f ≡ spec_checking.input_finding) }
+    ensures { IfOk result (λ f. f ≡ spec_check_runs.input_finding) }
 {
     let found = Finding::new(
         alloc,
@@ -115,7 +115,7 @@ fn push_people(
     line: &[u8],
     found: &Finding,
 ) -> Result<(), AllocError>
-    ensures { OnOk result (string_bytes text.new ≡ string_bytes text.old ++ spec_checking.people_text reason row line.now found.now) }
+    ensures { OnOk result (string_bytes text.new ≡ string_bytes text.old ++ spec_check_runs.people_text reason row line.now found.now) }
 {
     let word = word_of_reason(reason);
     if has_no_octets(reason) {
@@ -124,8 +124,8 @@ fn push_people(
     push_finding(text, alloc, word, row, line, found)
 }
 
-// Appends what is written of a bad line after so many others.
-#[tactic(auto, unfolding(crate::specs::Checking::bad_text))]
+// Appends what is written of a bad line after this many others.
+#[tactic(auto, unfolding(crate::specs::CheckRuns::bad_text))]
 fn push_bad(
     text: &mut String,
     alloc: Global,
@@ -137,7 +137,7 @@ fn push_bad(
     found: &Finding,
 ) -> Result<(), AllocError>
     ensures { OnOk result
-        (string_bytes text.new ≡ string_bytes text.old ++ spec_checking.bad_text json before row line.now reason found.now) }
+        (string_bytes text.new ≡ string_bytes text.old ++ spec_check_runs.bad_text json before row line.now reason found.now) }
 {
     if json {
         return push_object(text, alloc, word_of_reason(reason), row, found);
@@ -157,7 +157,7 @@ fn push_made(made: &mut Vec<Made>, eui: Eui, row: u32) -> Result<(), AllocError>
 
 // Keeps a node that an event makes.
 fn keep_made(made: &mut Vec<Made>, event: &Event<'_>, row: u32) -> Result<(), AllocError>
-    ensures { OnOk result (made.new.items ≡ spec_checking.made_after event.now row made.old.items) }
+    ensures { OnOk result (made.new.items ≡ spec_check_runs.made_after event.now row made.old.items) }
 {
     match event {
         Event::Coordinator { eui, .. } => push_made(made, *eui, row),
@@ -166,14 +166,14 @@ fn keep_made(made: &mut Vec<Made>, event: &Event<'_>, row: u32) -> Result<(), Al
     }
 }
 
-// Keeps the first event that is none of the setup.
+// Keeps the first event that is not part of the setup.
 fn keep_other(
     other: &mut FirstOther,
     event: &Event<'_>,
     row: u32,
     line: &[u8],
 ) -> Result<(), AllocError>
-    ensures { OnOk result (other.new ≡ spec_checking.other_after event.now row line.now other.old) }
+    ensures { OnOk result (other.new ≡ spec_check_runs.other_after event.now row line.now other.old) }
 {
     if 0 < other.row() {
         return Ok(());
@@ -184,9 +184,9 @@ fn keep_other(
     other.keep(row, &line[..line.len().min(60)])
 }
 
-#[tactic(auto, unfolding(crate::specs::Checking::more_text))]
+#[tactic(auto, unfolding(crate::specs::CheckRuns::more_text))]
 fn push_more(text: &mut String, alloc: Global, more: u32) -> Result<(), AllocError>
-    ensures { OnOk result (string_bytes text.new ≡ string_bytes text.old ++ spec_checking.more_text more) }
+    ensures { OnOk result (string_bytes text.new ≡ string_bytes text.old ++ spec_check_runs.more_text more) }
 {
     if more == 0 {
         return Ok(());
@@ -208,9 +208,9 @@ fn more_words(more: u32) -> &'static str
     " more lines have no reading"
 }
 
-#[tactic(auto, unfolding(crate::specs::Checking::shown_text))]
+#[tactic(auto, unfolding(crate::specs::CheckRuns::shown_text))]
 fn push_shown(text: &mut String, bad: u32) -> Result<(), AllocError>
-    ensures { OnOk result (string_bytes text.new ≡ string_bytes text.old ++ spec_checking.shown_text bad) }
+    ensures { OnOk result (string_bytes text.new ≡ string_bytes text.old ++ spec_check_runs.shown_text bad) }
 {
     if MOST_TOLD < bad {
         return text.push_str("(the first 20 are shown)\n");
@@ -218,14 +218,14 @@ fn push_shown(text: &mut String, bad: u32) -> Result<(), AllocError>
     Ok(())
 }
 
-#[tactic(auto, unfolding(crate::specs::Checking::first_text))]
+#[tactic(auto, unfolding(crate::specs::CheckRuns::first_text))]
 fn push_first(
     text: &mut String,
     alloc: Global,
     first: u32,
     reason: Reason,
 ) -> Result<(), AllocError>
-    ensures { OnOk result (string_bytes text.new ≡ string_bytes text.old ++ spec_checking.first_text first reason) }
+    ensures { OnOk result (string_bytes text.new ≡ string_bytes text.old ++ spec_check_runs.first_text first reason) }
 {
     let word = word_of_reason(reason);
     push_parts(
@@ -244,7 +244,7 @@ fn push_first(
 impl Checker {
     /// No line so far. It fails only where there is no memory for it.
     pub fn new(alloc: Global, json: bool) -> Result<Checker, AllocError>
-        ensures { IfOk result (λ checker. checker ≡ spec_checking.checking json) }
+        ensures { IfOk result (λ checker. checker ≡ spec_check_runs.checking json) }
     {
         let world = World::new(alloc)?;
         Ok(Checker {
@@ -264,14 +264,14 @@ impl Checker {
 
     /// Whether a line is bad.
     pub fn is_bad(&self) -> bool
-        ensures { result ≡ spec_checking.is_bad self.now }
+        ensures { result ≡ spec_check_runs.is_bad self.now }
     {
         0 < self.bad
     }
 
     // Counts a line that is bad.
     fn count_bad(&mut self, row: u32, reason: Reason)
-        ensures { self.new ≡ spec_checking.bad_after row reason self.old }
+        ensures { self.new ≡ spec_check_runs.bad_after row reason self.old }
     {
         if self.bad == 0 {
             self.first = row;
@@ -282,7 +282,7 @@ impl Checker {
     }
 
     // Appends what is wrong with a line.
-    fn tell(
+    fn write_finding(
         &mut self,
         text: &mut String,
         row: u32,
@@ -290,10 +290,10 @@ impl Checker {
         reason: Reason,
         found: &Finding,
     ) -> Result<(), AllocError>
-        ensures checking { OnOk result (self.new ≡ spec_checking.bad_after row reason self.old) }
+        ensures checking { OnOk result (self.new ≡ spec_check_runs.bad_after row reason self.old) }
         ensures text { OnOk result
             (string_bytes text.new
-            ≡ string_bytes text.old ++ spec_checking.bad_text self.old.json self.old.bad row line.now reason found.now) }
+            ≡ string_bytes text.old ++ spec_check_runs.bad_text self.old.json self.old.bad row line.now reason found.now) }
     {
         push_bad(
             text, self.alloc, self.json, self.bad, row, line, reason, found,
@@ -304,7 +304,7 @@ impl Checker {
 
     // Counts a line with nothing wrong.
     fn see(&mut self, row: u32)
-        ensures { self.new ≡ spec_checking.seen row self.old }
+        ensures { self.new ≡ spec_check_runs.seen row self.old }
     {
         self.rows = row;
     }
@@ -315,13 +315,13 @@ impl Checker {
         row: u32,
         line: &[u8],
         event: &Event<'_>,
-        told: TaleEvent,
+        recorded: RecordedEvent,
     ) -> Result<(), AllocError>
-        ensures { OnOk result (self.new ≡ spec_checking.kept row line.now event.now told self.old) }
+        ensures { OnOk result (self.new ≡ spec_check_runs.kept row line.now event.now recorded self.old) }
     {
         keep_made(&mut self.made, event, row)?;
         keep_other(&mut self.other, event, row, line)?;
-        self.events.push(told)?;
+        self.events.push(recorded)?;
         self.rows = row;
         Ok(())
     }
@@ -346,14 +346,14 @@ impl Checker {
             Err(StepFault::Node) => return Ok(Some(Reason::Node)),
             Err(StepFault::Flight) => return Ok(Some(Reason::Flight)),
         };
-        let told = event_told(row, event, &happenings, self.world.clock(), 0);
-        self.keep(row, line, event, told)?;
+        let recorded = recorded_event(row, event, &happenings, self.world.clock(), 0);
+        self.keep(row, line, event, recorded)?;
         Ok(None)
     }
 
     // The node that sent the last flight.
     fn last_sender(&self) -> u16
-        ensures { result ≡ spec_checking.last_sender self.now.world }
+        ensures { result ≡ spec_check_runs.last_sender self.now.world }
     {
         let last = self.world.counts().flights;
         self.world.flight_sender(last).unwrap_or(0)
@@ -366,7 +366,7 @@ impl Checker {
         event: &Event<'_>,
         reason: Reason,
     ) -> Result<Finding, AllocError>
-        ensures { IfOk result (λ f. f ≡ event_finding reason (spec_checking.bad_event self.now line.now event.now)) }
+        ensures { IfOk result (λ f. f ≡ event_finding reason (spec_check_runs.bad_event self.now line.now event.now)) }
     {
         let bad = BadEvent {
             line,
@@ -391,13 +391,13 @@ impl Checker {
     ) -> Result<(), AllocError>
         requires { IsEvent event.now }
         ensures { OnOk result (Looked (string_bytes text.old) (string_bytes text.new) self.old self.new row line.now
-            (spec_checking.event_look self.old line.now event.now (event_taking self.old.world event.now))) }
+            (spec_check_runs.event_look self.old line.now event.now (event_taking self.old.world event.now))) }
     {
         let Some(reason) = self.step(row, line, event)? else {
             return Ok(());
         };
         let found = self.event_finding(line, event, reason)?;
-        self.tell(text, row, line, reason, &found)
+        self.write_finding(text, row, line, reason, &found)
     }
 
     // A line by its words alone.
@@ -411,14 +411,14 @@ impl Checker {
         requires octets { length octets.old ≡ LINE_OCTETS }
         requires place { length line.now < 2 ^ 63 }
         ensures { OnOk result (Looked (string_bytes text.old) (string_bytes text.new) self.old self.new row line.now
-            (spec_checking.form_look line.now)) }
+            (spec_check_runs.form_look line.now)) }
     {
         match line_finding(self.alloc, line, octets)? {
             None => {
                 self.see(row);
                 Ok(())
             }
-            Some(found) => self.tell(text, row, line, Reason::Form, &found),
+            Some(found) => self.write_finding(text, row, line, Reason::Form, &found),
         }
     }
 
@@ -433,7 +433,7 @@ impl Checker {
         requires octets { length octets.old ≡ LINE_OCTETS }
         requires place { length line.now < 2 ^ 63 }
         ensures { OnOk result (Looked (string_bytes text.old) (string_bytes text.new) self.old self.new row line.now
-            (spec_checking.reading_look self.old line.now (reading line.now))) }
+            (spec_check_runs.reading_look self.old line.now (reading line.now))) }
     {
         match read_line(line, octets) {
             Reading::Quiet => {
@@ -459,7 +459,7 @@ impl Checker {
         requires octets { length octets.old ≡ LINE_OCTETS }
         requires place { length line.now < 2 ^ 63 }
         ensures { OnOk result (Looked (string_bytes text.old) (string_bytes text.new) self.old self.new row line.now
-            (spec_checking.text_look self.old line.now)) }
+            (spec_check_runs.text_look self.old line.now)) }
     {
         if 0 < self.bad {
             return self.look_at_form(octets, text, row, line);
@@ -470,25 +470,25 @@ impl Checker {
     /// The same for a line with too many octets.
     pub fn look_at_long(&mut self, text: &mut String, row: u32) -> Result<(), AllocError>
         ensures { OnOk result (Looked (string_bytes text.old) (string_bytes text.new) self.old self.new row []
-            (spec_checking.Tells Reason.Long spec_checking.long_finding)) }
+            (spec_check_runs.Tells Reason.Long spec_check_runs.long_finding)) }
     {
         let found = long_finding(self.alloc)?;
-        self.tell(text, row, &[], Reason::Long, &found)
+        self.write_finding(text, row, &[], Reason::Long, &found)
     }
 
     /// The same for the octet that is too much, with the last lines.
     pub fn look_at_too_much(&mut self, text: &mut String, row: u32) -> Result<(), AllocError>
         ensures { OnOk result (LooksLast (string_bytes text.old) (string_bytes text.new) self.old row
-            (spec_checking.Tells Reason.Input spec_checking.input_finding)) }
+            (spec_check_runs.Tells Reason.Input spec_check_runs.input_finding)) }
     {
         let found = input_finding(self.alloc)?;
-        self.tell(text, row, &[], Reason::Input, &found)?;
+        self.write_finding(text, row, &[], Reason::Input, &found)?;
         self.push_end(text)
     }
 
-    #[tactic(auto, unfolding(crate::specs::Checking::bad_end))]
+    #[tactic(auto, unfolding(crate::specs::CheckRuns::bad_end))]
     fn push_bad_end(&self, text: &mut String) -> Result<(), AllocError>
-        ensures { OnOk result (string_bytes text.new ≡ string_bytes text.old ++ spec_checking.bad_end self.now) }
+        ensures { OnOk result (string_bytes text.new ≡ string_bytes text.old ++ spec_check_runs.bad_end self.now) }
     {
         push_first(text, self.alloc, self.first, self.reason)?;
         push_more(text, self.alloc, self.bad.saturating_sub(1))?;
@@ -496,9 +496,9 @@ impl Checker {
         push_shown(text, self.bad)
     }
 
-    #[tactic(auto, unfolding(crate::specs::Checking::fine_end))]
+    #[tactic(auto, unfolding(crate::specs::CheckRuns::fine_end))]
     fn push_fine_end(&self, text: &mut String) -> Result<(), AllocError>
-        ensures { OnOk result (string_bytes text.new ≡ string_bytes text.old ++ spec_checking.fine_end self.now) }
+        ensures { OnOk result (string_bytes text.new ≡ string_bytes text.old ++ spec_check_runs.fine_end self.now) }
     {
         let rows = self.rows as usize;
         let events = self.events.len();
@@ -517,7 +517,7 @@ impl Checker {
 
     /// Appends the last lines: which line ends the run, or that none does.
     pub fn push_end(&self, text: &mut String) -> Result<(), AllocError>
-        ensures { OnOk result (string_bytes text.new ≡ string_bytes text.old ++ spec_checking.end_of self.now) }
+        ensures { OnOk result (string_bytes text.new ≡ string_bytes text.old ++ spec_check_runs.end_of self.now) }
     {
         if self.json {
             return Ok(());

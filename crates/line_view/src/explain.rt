@@ -1,15 +1,15 @@
 //! `explain`: what became of each datagram and each joining of a script.
 ghost use Rattle.std.specs.Prelude.{◌≡◌, ◌++◌, IfOk, OnOk, string_bytes};
-ghost use Rattle.line_view.specs.Explaining as explaining;
+ghost use Rattle.line_view.specs.ExplainRuns as explain_runs;
 
 use crate::bad_line::{BadLine, push_bad};
 use crate::recorder::Recorder;
 use crate::run_machine::{Finding, RunMachine, forged_if};
-use crate::teller::Teller;
+use crate::run_sentences::RunSentences;
 use line_events::Event;
+use line_record::{Ends, ends_of};
 use line_script::Reason;
-use line_stories::{Telling, stories_of};
-use line_tale::{Ends, ends_of};
+use line_stories::{RunStories, stories_of};
 use line_world::Buffers;
 use sentence_parts::{number, push_parts, words};
 use std::alloc::{AllocError, Global};
@@ -17,7 +17,7 @@ use std::marker::Model;
 use story_accounts::{Account, Chosen, Index};
 
 fn push_bad_line(text: &mut String, alloc: Global, bad: Option<BadLine>) -> Result<(), AllocError>
-    ensures { OnOk result (string_bytes text.new ≡ string_bytes text.old ++ explaining.bad_line_text bad) }
+    ensures { OnOk result (string_bytes text.new ≡ string_bytes text.old ++ explain_runs.bad_line_text bad) }
 {
     match bad {
         None => Ok(()),
@@ -28,9 +28,9 @@ fn push_bad_line(text: &mut String, alloc: Global, bad: Option<BadLine>) -> Resu
     }
 }
 
-#[tactic(auto, unfolding(crate::specs::Explaining::counts_text))]
+#[tactic(auto, unfolding(crate::specs::ExplainRuns::counts_text))]
 fn push_counts(text: &mut String, alloc: Global, run: &Recorder) -> Result<(), AllocError>
-    ensures { OnOk result (string_bytes text.new ≡ string_bytes text.old ++ explaining.counts_text run.now.world) }
+    ensures { OnOk result (string_bytes text.new ≡ string_bytes text.old ++ explain_runs.counts_text run.now.world) }
 {
     let counts = run.world.counts();
     push_parts(
@@ -58,28 +58,28 @@ fn push_account_over(
     alloc: Global,
     chosen: Chosen,
     run: &Recorder,
-    teller: &Teller,
-    telling: &Telling,
+    run_sentences: &RunSentences,
+    run_stories: &RunStories,
     ends: &[Ends],
     index: &Index,
 ) -> Result<(), AllocError>
     ensures { OnOk result (string_bytes text.new
-        ≡ string_bytes text.old ++ explaining.account_over chosen run.now teller.now telling.now ends.now index.now) }
+        ≡ string_bytes text.old ++ explain_runs.account_over chosen run.now run_sentences.now run_stories.now ends.now index.now) }
 {
     let account = Account {
         alloc,
-        tale: &run.tale,
+        run_record: &run.run_record,
         more: run.more.as_slice(),
         counters: &run.counters,
-        marks: teller.marks.as_slice(),
-        stories: telling.stories.as_slice(),
-        owners: telling.owners.as_slice(),
-        lots: telling.lots.as_slice(),
+        marks: run_sentences.marks.as_slice(),
+        stories: run_stories.stories.as_slice(),
+        owners: run_stories.owners.as_slice(),
+        courses: run_stories.courses.as_slice(),
         ends,
         index,
-        homes: telling.homes.as_slice(),
+        homes: run_stories.homes.as_slice(),
         euis: run.euis.as_slice(),
-        sentences: teller.sentences.as_slice(),
+        sentences: run_sentences.sentences.as_slice(),
     };
     account.push_account(text, chosen)
 }
@@ -89,31 +89,31 @@ fn push_account_with(
     alloc: Global,
     chosen: Chosen,
     run: &Recorder,
-    teller: &Teller,
-    telling: &Telling,
+    run_sentences: &RunSentences,
+    run_stories: &RunStories,
 ) -> Result<(), AllocError>
     ensures { OnOk result (string_bytes text.new
-        ≡ string_bytes text.old ++ explaining.account_with chosen run.now teller.now telling.now) }
+        ≡ string_bytes text.old ++ explain_runs.account_with chosen run.now run_sentences.now run_stories.now) }
 {
-    let count = telling.stories.len();
-    let lots = telling.lots.as_slice();
-    let ends = ends_of(alloc, count, lots)?;
+    let count = run_stories.stories.len();
+    let courses = run_stories.courses.as_slice();
+    let ends = ends_of(alloc, count, courses)?;
     let index = Index::new(
         alloc,
         count,
         run.euis.len(),
-        &run.tale,
-        lots,
-        telling.sent.as_slice(),
-        telling.owners.as_slice(),
+        &run.run_record,
+        courses,
+        run_stories.sent.as_slice(),
+        run_stories.owners.as_slice(),
     )?;
     push_account_over(
         text,
         alloc,
         chosen,
         run,
-        teller,
-        telling,
+        run_sentences,
+        run_stories,
         ends.as_slice(),
         &index,
     )
@@ -125,19 +125,19 @@ fn push_account(
     alloc: Global,
     chosen: Chosen,
     run: &Recorder,
-    teller: &Teller,
+    run_sentences: &RunSentences,
 ) -> Result<(), AllocError>
     ensures { OnOk result (string_bytes text.new
-        ≡ string_bytes text.old ++ explaining.account_of chosen run.now teller.now) }
+        ≡ string_bytes text.old ++ explain_runs.account_of chosen run.now run_sentences.now) }
 {
-    let telling = stories_of(alloc, &run.tale)?;
-    push_account_with(text, alloc, chosen, run, teller, &telling)
+    let run_stories = stories_of(alloc, &run.run_record)?;
+    push_account_with(text, alloc, chosen, run, run_sentences, &run_stories)
 }
 
 // Whether the run has what is chosen.
-#[tactic(auto, unfolding(crate::specs::Explaining::is_there))]
+#[tactic(auto, unfolding(crate::specs::ExplainRuns::is_there))]
 fn is_there(chosen: Chosen, run: &Recorder) -> bool
-    ensures { result ≡ explaining.is_there chosen run.now }
+    ensures { result ≡ explain_runs.is_there chosen run.now }
 {
     match chosen {
         Chosen::Send { send } => 1 <= send && send <= run.world.counts().sends,
@@ -154,7 +154,7 @@ fn push_range(
     first: usize,
     last: Option<usize>,
 ) -> Result<(), AllocError>
-    ensures { OnOk result (string_bytes text.new ≡ string_bytes text.old ++ explaining.range_text name.now first last) }
+    ensures { OnOk result (string_bytes text.new ≡ string_bytes text.old ++ explain_runs.range_text name.now first last) }
 {
     match last {
         None => push_parts(
@@ -178,7 +178,7 @@ fn push_range(
 }
 
 fn push_no(text: &mut String, alloc: Global, name: &str, asked: u32) -> Result<(), AllocError>
-    ensures { OnOk result (string_bytes text.new ≡ string_bytes text.old ++ explaining.no_text name.now asked) }
+    ensures { OnOk result (string_bytes text.new ≡ string_bytes text.old ++ explain_runs.no_text name.now asked) }
 {
     push_parts(
         text,
@@ -194,7 +194,7 @@ fn push_no(text: &mut String, alloc: Global, name: &str, asked: u32) -> Result<(
 }
 
 // That a run has nothing of this name and number, and what it has of the name.
-#[tactic(auto, unfolding(crate::specs::Explaining::lacking_text))]
+#[tactic(auto, unfolding(crate::specs::ExplainRuns::lacking_text))]
 fn push_lacking(
     text: &mut String,
     alloc: Global,
@@ -203,14 +203,14 @@ fn push_lacking(
     first: usize,
     last: Option<usize>,
 ) -> Result<(), AllocError>
-    ensures { OnOk result (string_bytes text.new ≡ string_bytes text.old ++ explaining.lacking_text name.now asked first last) }
+    ensures { OnOk result (string_bytes text.new ≡ string_bytes text.old ++ explain_runs.lacking_text name.now asked first last) }
 {
     push_no(text, alloc, name, asked)?;
     push_range(text, alloc, name, first, last)
 }
 
 fn last_send(sends: u32) -> Option<usize>
-    ensures { result ≡ explaining.last_send sends }
+    ensures { result ≡ explain_runs.last_send sends }
 {
     if sends == 0 {
         return None;
@@ -219,7 +219,7 @@ fn last_send(sends: u32) -> Option<usize>
 }
 
 fn last_node(nodes: usize) -> Option<usize>
-    ensures { result ≡ explaining.last_node nodes }
+    ensures { result ≡ explain_runs.last_node nodes }
 {
     if nodes == 0 {
         return None;
@@ -234,7 +234,7 @@ fn push_not_there(
     chosen: Chosen,
     run: &Recorder,
 ) -> Result<(), AllocError>
-    ensures { OnOk result (string_bytes text.new ≡ string_bytes text.old ++ explaining.not_there_text chosen run.now) }
+    ensures { OnOk result (string_bytes text.new ≡ string_bytes text.old ++ explain_runs.not_there_text chosen run.now) }
 {
     match chosen {
         Chosen::Send { send } => {
@@ -255,13 +255,13 @@ fn push_answer(
     alloc: Global,
     chosen: Chosen,
     run: &Recorder,
-    teller: &Teller,
+    run_sentences: &RunSentences,
 ) -> Result<(), AllocError>
     ensures { OnOk result (string_bytes text.new
-        ≡ string_bytes text.old ++ explaining.answer_of chosen run.now teller.now) }
+        ≡ string_bytes text.old ++ explain_runs.answer_of chosen run.now run_sentences.now) }
 {
     if is_there(chosen, run) {
-        return push_account(text, alloc, chosen, run, teller);
+        return push_account(text, alloc, chosen, run, run_sentences);
     }
     push_not_there(text, alloc, chosen, run)
 }
@@ -272,50 +272,56 @@ pub struct Explain {
     alloc: Global,
     chosen: Chosen,
     run: Recorder,
-    teller: Teller,
+    run_sentences: RunSentences,
 }
 
 impl Model for Explain {
     ghost use Rattle.std.specs.Coded.{codes};
     ghost use Rattle.line_world.specs.WorldCodes.{world_code};
-    ghost use Rattle.line_view.specs.Explaining.{Explaining};
+    ghost use Rattle.line_view.specs.ExplainRuns.{ExplainRun};
 
-    ghost Value = { Explaining };
+    ghost Value = { ExplainRun };
 
     ghost coded = { Prim.hlevel (codes, world_code) };
 
-    ghost view = { λ e. record { chosen = e.chosen; run = e.run; told = e.teller } };
+    ghost view = { λ e. record { chosen = e.chosen; run = e.run; worded = e.run_sentences } };
 }
 
 impl Explain {
     /// No line so far. It fails only where there is no memory for it.
     pub fn new(alloc: Global, chosen: Chosen) -> Result<Explain, AllocError>
-        ensures { IfOk result (λ explain. explain ≡ explaining.nothing_explained chosen) }
+        ensures { IfOk result (λ explain. explain ≡ explain_runs.nothing_explained chosen) }
     {
         let run = Recorder::new(alloc)?;
         Ok(Explain {
             alloc,
             chosen,
             run,
-            teller: Teller::new(alloc),
+            run_sentences: RunSentences::new(alloc),
         })
     }
 
     // The whole text, with the bad line, if there is one.
-    #[tactic(auto, unfolding(crate::specs::Explaining::explain_text))]
+    #[tactic(auto, unfolding(crate::specs::ExplainRuns::explain_text))]
     fn text(&self, bad: Option<BadLine>) -> Result<String, AllocError>
-        ensures { IfOk result (λ text. string_bytes text ≡ explaining.explain_text self.now bad) }
+        ensures { IfOk result (λ text. string_bytes text ≡ explain_runs.explain_text self.now bad) }
     {
         let mut text = String::new(self.alloc);
         push_counts(&mut text, self.alloc, &self.run)?;
         push_bad_line(&mut text, self.alloc, bad)?;
-        push_answer(&mut text, self.alloc, self.chosen, &self.run, &self.teller)?;
+        push_answer(
+            &mut text,
+            self.alloc,
+            self.chosen,
+            &self.run,
+            &self.run_sentences,
+        )?;
         Ok(text)
     }
 }
 
 impl RunMachine for Explain {
-    ghost rules = { explaining.rules };
+    ghost rules = { explain_runs.rules };
 
     // The event has its sentence.
     fn step(
@@ -328,7 +334,7 @@ impl RunMachine for Explain {
         if refusal.is_some() {
             return Ok(refusal);
         }
-        self.teller.tell(&mut self.run, event)?;
+        self.run_sentences.add_sentence(&mut self.run, event)?;
         Ok(None)
     }
 

@@ -12,7 +12,7 @@ mod octet_output;
 mod page;
 mod recorder;
 mod run_machine;
-mod teller;
+mod run_sentences;
 mod tool;
 
 use plc_base::{StdSink, StdSource};

@@ -1,15 +1,17 @@
 //! `page`: a run as one page of HTML, to look at.
 ghost use Rattle.std.specs.Prelude.{◌≡◌, ◌++◌, IfOk, OnOk};
-ghost use Rattle.line_view.specs.Paging as paging;
+ghost use Rattle.line_view.specs.PageRuns as page_runs;
 
 use crate::bad_line::{BadLine, bad_words};
 use crate::recorder::Recorder;
 use crate::run_machine::{Finding, RunMachine, forged_if};
-use crate::teller::{MOST_NODES, Teller, nothing_shown};
+use crate::run_sentences::{MOST_NODES, RunSentences, nothing_shown};
 use line_events::Event;
+use line_record::{
+    Act, Ends, RecordedEvent, actor_of, ends_of, is_for_another, makes_node, person_of,
+};
 use line_script::Reason;
-use line_stories::{Telling, stories_of};
-use line_tale::{Act, Ends, TaleEvent, actor_of, ends_of, is_for_another, makes_node, person_of};
+use line_stories::{RunStories, stories_of};
 use line_world::Buffers;
 use node_pasts::Pasts;
 use node_rules::Shown;
@@ -24,7 +26,7 @@ use story_accounts::{Account, Index};
 pub struct Page {
     alloc: Global,
     run: Recorder,
-    teller: Teller,
+    run_sentences: RunSentences,
     remarks: Remarks,
     pasts: Pasts,
     // What the node shows that was looked at last.
@@ -34,18 +36,18 @@ pub struct Page {
 impl Model for Page {
     ghost use Rattle.std.specs.Coded.{codes};
     ghost use Rattle.line_world.specs.WorldCodes.{world_code};
-    ghost use Rattle.line_view.specs.Paging.{Paging};
+    ghost use Rattle.line_view.specs.PageRuns.{PageRun};
 
-    ghost Value = { Paging };
+    ghost Value = { PageRun };
 
     ghost coded = { Prim.hlevel (codes, world_code) };
 
-    ghost view = { λ p. record { run = p.run; told = p.teller; remarks = p.remarks; pasts = p.pasts } };
+    ghost view = { λ p. record { run = p.run; worded = p.run_sentences; remarks = p.remarks; pasts = p.pasts } };
 }
 
 // The node that an event may change beside the one that it is about.
 fn other_of(act: &Act) -> u32
-    ensures { result ≡ paging.other_of act.now }
+    ensures { result ≡ page_runs.other_of act.now }
 {
     match act {
         Act::Near { b, .. } => *b,
@@ -55,7 +57,7 @@ fn other_of(act: &Act) -> u32
 
 // Whether time passes, for all nodes.
 fn is_tick(act: &Act) -> bool
-    ensures { result ≡ paging.is_tick act.now }
+    ensures { result ≡ page_runs.is_tick act.now }
 {
     match act {
         Act::Tick { .. } => true,
@@ -65,7 +67,7 @@ fn is_tick(act: &Act) -> bool
 
 // Whether a flight came, which changes no other node.
 fn is_delivery(act: &Act) -> bool
-    ensures { result ≡ paging.is_delivery act.now }
+    ensures { result ≡ page_runs.is_delivery act.now }
 {
     match act {
         Act::Deliver { .. } => true,
@@ -76,13 +78,13 @@ fn is_delivery(act: &Act) -> bool
 impl Page {
     /// No line so far. It fails only where there is no memory for it.
     pub fn new(alloc: Global) -> Result<Page, AllocError>
-        ensures { IfOk result (λ page. page ≡ paging.nothing_paged) }
+        ensures { IfOk result (λ page. page ≡ page_runs.nothing_paged) }
     {
         let run = Recorder::new(alloc)?;
         Ok(Page {
             alloc,
             run,
-            teller: Teller::new(alloc),
+            run_sentences: RunSentences::new(alloc),
             remarks: Remarks::new(alloc),
             pasts: Pasts::new(alloc),
             shown: nothing_shown(),
@@ -93,27 +95,27 @@ impl Page {
     fn push_page_over(
         &self,
         out: &mut Vec<u8>,
-        telling: &Telling,
+        run_stories: &RunStories,
         bad: &str,
         ends: &[Ends],
         index: &Index,
     ) -> Result<(), AllocError>
-        ensures { OnOk result (out.new.items ≡ out.old.items ++ paging.page_over self.now telling.now bad.now ends.now index.now) }
+        ensures { OnOk result (out.new.items ≡ out.old.items ++ page_runs.page_over self.now run_stories.now bad.now ends.now index.now) }
     {
         let account = Account {
             alloc: self.alloc,
-            tale: &self.run.tale,
+            run_record: &self.run.run_record,
             more: self.run.more.as_slice(),
             counters: &self.run.counters,
-            marks: self.teller.marks.as_slice(),
-            stories: telling.stories.as_slice(),
-            owners: telling.owners.as_slice(),
-            lots: telling.lots.as_slice(),
+            marks: self.run_sentences.marks.as_slice(),
+            stories: run_stories.stories.as_slice(),
+            owners: run_stories.owners.as_slice(),
+            courses: run_stories.courses.as_slice(),
             ends,
             index,
-            homes: telling.homes.as_slice(),
+            homes: run_stories.homes.as_slice(),
             euis: self.run.euis.as_slice(),
-            sentences: self.teller.sentences.as_slice(),
+            sentences: self.run_sentences.sentences.as_slice(),
         };
         let counts = self.run.world.counts();
         let sheet = Sheet {
@@ -124,62 +126,62 @@ impl Page {
             title: self.remarks.title(),
             bad,
         };
-        sheet.push_page(out, &self.chart_run(telling))
+        sheet.push_page(out, &self.chart_run(run_stories))
     }
 
     // Appends the page, by the stories of the run.
     fn push_page_with(
         &self,
         out: &mut Vec<u8>,
-        telling: &Telling,
+        run_stories: &RunStories,
         bad: &str,
     ) -> Result<(), AllocError>
-        ensures { OnOk result (out.new.items ≡ out.old.items ++ paging.page_with self.now telling.now bad.now) }
+        ensures { OnOk result (out.new.items ≡ out.old.items ++ page_runs.page_with self.now run_stories.now bad.now) }
     {
-        let count = telling.stories.len();
-        let lots = telling.lots.as_slice();
-        let ends = ends_of(self.alloc, count, lots)?;
+        let count = run_stories.stories.len();
+        let courses = run_stories.courses.as_slice();
+        let ends = ends_of(self.alloc, count, courses)?;
         let index = Index::new(
             self.alloc,
             count,
             self.run.euis.len(),
-            &self.run.tale,
-            lots,
-            telling.sent.as_slice(),
-            telling.owners.as_slice(),
+            &self.run.run_record,
+            courses,
+            run_stories.sent.as_slice(),
+            run_stories.owners.as_slice(),
         )?;
-        self.push_page_over(out, telling, bad, ends.as_slice(), &index)
+        self.push_page_over(out, run_stories, bad, ends.as_slice(), &index)
     }
 
-    fn chart_run<'a>(&'a self, telling: &'a Telling) -> ChartRun<'a>
-        ensures { result ≡ paging.chart_run self.now telling.now }
+    fn chart_run<'a>(&'a self, run_stories: &'a RunStories) -> ChartRun<'a>
+        ensures { result ≡ page_runs.chart_run self.now run_stories.now }
     {
         ChartRun {
             alloc: self.alloc,
-            tale: &self.run.tale,
-            lots: telling.lots.as_slice(),
-            sentences: self.teller.sentences.as_slice(),
+            run_record: &self.run.run_record,
+            courses: run_stories.courses.as_slice(),
+            sentences: self.run_sentences.sentences.as_slice(),
             notes: self.remarks.notes(),
             pasts: &self.pasts,
         }
     }
 
     // The whole page, with the bad line, if there is one.
-    #[tactic(auto, unfolding(crate::specs::Paging::page_text))]
+    #[tactic(auto, unfolding(crate::specs::PageRuns::page_text))]
     fn text(&self, bad: Option<BadLine>) -> Result<Vec<u8>, AllocError>
-        ensures { IfOk result (λ text. text.items ≡ paging.page_text self.now bad) }
+        ensures { IfOk result (λ text. text.items ≡ page_runs.page_text self.now bad) }
     {
-        let telling = stories_of(self.alloc, &self.run.tale)?;
+        let run_stories = stories_of(self.alloc, &self.run.run_record)?;
         let said = bad_words(self.alloc, bad)?;
         let mut out = Vec::new(self.alloc);
-        self.push_page_with(&mut out, &telling, said.as_str())?;
+        self.push_page_with(&mut out, &run_stories, said.as_str())?;
         Ok(out)
     }
 
     // Looks at a node after an event.
-    #[tactic(auto, unfolding(crate::specs::Paging::looked), using(crate::proofs::Paged::look_there, crate::proofs::Paged::look_nowhere))]
+    #[tactic(auto, unfolding(crate::specs::PageRuns::looked), using(crate::proofs::Paged::look_there, crate::proofs::Paged::look_nowhere))]
     fn look(&mut self, event: usize, node: u32) -> Result<(), AllocError>
-        ensures { OnOk result (self.new ≡ paging.looked event node self.old) }
+        ensures { OnOk result (self.new ≡ page_runs.looked event node self.old) }
     {
         if !self.run.world.show(node, &mut self.shown) {
             return Ok(());
@@ -187,9 +189,9 @@ impl Page {
         self.pasts.look(node as usize, event, &self.shown)
     }
 
-    // Looks at so many nodes.
+    // Looks at this many nodes.
     fn look_at_all(&mut self, event: usize, count: u32) -> Result<(), AllocError>
-        ensures { OnOk result (self.new ≡ paging.looked_at_all event count self.old) }
+        ensures { OnOk result (self.new ≡ page_runs.looked_at_all event count self.old) }
     {
         for node in 0..count {
             self.look(event, node)?;
@@ -199,7 +201,7 @@ impl Page {
 
     // Looks at the nodes that an event may change, which is one where a flight came.
     fn look_at_both(&mut self, event: usize, act: &Act) -> Result<(), AllocError>
-        ensures { OnOk result (self.new ≡ paging.looked_at_both act.now event self.old) }
+        ensures { OnOk result (self.new ≡ page_runs.looked_at_both act.now event self.old) }
     {
         self.look(event, actor_of(act))?;
         if is_delivery(act) {
@@ -210,7 +212,7 @@ impl Page {
 
     // Looks at the nodes that an event of this kind may change.
     fn look_around(&mut self, event: usize, act: &Act) -> Result<(), AllocError>
-        ensures { OnOk result (self.new ≡ paging.looked_around event act.now self.old) }
+        ensures { OnOk result (self.new ≡ page_runs.looked_around event act.now self.old) }
     {
         let nodes = self.run.euis.len().min(MOST_NODES) as u32;
         if makes_node(act) {
@@ -224,31 +226,31 @@ impl Page {
     }
 
     // Looks at the nodes that an event may have changed: at none where its frame was for another node, as most are that come.
-    fn look_after(&mut self, event: usize, told: &TaleEvent) -> Result<(), AllocError>
-        ensures { OnOk result (self.new ≡ paging.looked_after event told.now self.old) }
+    fn look_after(&mut self, event: usize, recorded: &RecordedEvent) -> Result<(), AllocError>
+        ensures { OnOk result (self.new ≡ page_runs.looked_after event recorded.now self.old) }
     {
-        if is_for_another(told.answer) {
+        if is_for_another(recorded.answer) {
             return Ok(());
         }
-        self.look_around(event, &told.act)
+        self.look_around(event, &recorded.act)
     }
 
     // What is kept of the event that the run took last.
-    #[tactic(auto, unfolding(crate::specs::Paging::kept))]
+    #[tactic(auto, unfolding(crate::specs::PageRuns::kept))]
     fn keep(&mut self) -> Result<(), AllocError>
-        ensures { OnOk result (self.new ≡ paging.kept self.old) }
+        ensures { OnOk result (self.new ≡ page_runs.kept self.old) }
     {
-        let event = self.run.tale.events.len();
+        let event = self.run.run_record.events.len();
         self.remarks.end(self.alloc)?;
-        match self.run.tale.event(event).copied() {
+        match self.run.run_record.event(event).copied() {
             None => Ok(()),
-            Some(told) => self.look_after(event, &told),
+            Some(recorded) => self.look_after(event, &recorded),
         }
     }
 }
 
 impl RunMachine for Page {
-    ghost rules = { paging.rules };
+    ghost rules = { page_runs.rules };
 
     // The event has its sentence, and what else there is of it is kept.
     fn step(
@@ -261,7 +263,7 @@ impl RunMachine for Page {
         if refusal.is_some() {
             return Ok(refusal);
         }
-        self.teller.tell(&mut self.run, event)?;
+        self.run_sentences.add_sentence(&mut self.run, event)?;
         self.keep()?;
         Ok(None)
     }

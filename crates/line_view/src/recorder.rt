@@ -1,31 +1,31 @@
-//! A run, recorded while it is made: the world, and the tale of what its events did.
+//! A run, recorded while it is made: the world, and the record of what its events did.
 ghost use Rattle.std.specs.Prelude.{◌≡◌, ◌≤◌, ◌<◌, ◌+◌, ◌^◌, IfOk, OnOk, Some, length, nat_lt};
 ghost use Rattle.std.specs.Option.{ForSome, option_copied};
 ghost use Rattle.plc_base.specs.declared.limits.TheConstants.{LONGEST_FRAME};
 ghost use Rattle.line_events.specs.Events.{IsEvent};
 ghost use Rattle.frame_details.specs.Payloads.{held};
-ghost use Rattle.script_runs.specs.Takings.{event_taking};
+ghost use Rattle.script_runs.specs.TakenLines.{event_taking};
 ghost use Rattle.line_view.specs.Recordings as recordings;
 
 use aes_modes::Aes;
 use frame_details::{FlightMore, decrypt_octets, more_of};
 use frame_words::frame_target;
 use line_events::{Answer, Event, Happenings, MAX_EVENTS, StepFault};
+use line_record::{Counters, RunRecord};
 use line_script::Reason;
-use line_tale::{Counters, Tale};
 use line_world::{Buffers, World};
 use plc_base::{Eui, FrameBuf, Key};
 use sentence_parts::device_of;
 use std::alloc::{AllocError, Global};
 use std::marker::Model;
 
-/// A run and its tale. A contract sees all but the schedule and the buffer.
+/// A run and its record. A contract sees all but the schedule and the buffer.
 #[derive(Drop)]
 pub struct Recorder {
     /// The world after the last event.
     pub world: World,
     /// What the events did.
-    pub tale: Tale,
+    pub run_record: RunRecord,
     /// What the flights carry that no story goes by, by their numbers from 1.
     pub more: Vec<FlightMore>,
     /// Which flight was sealed with which counter.
@@ -48,8 +48,8 @@ impl Model for Recorder {
 
     ghost view = { λ r. record {
       world = r.world;
-      events = r.tale.events.items;
-      flights = r.tale.flights.items;
+      events = r.run_record.events.items;
+      flights = r.run_record.flights.items;
       more = r.more.items;
       counters = r.counters;
       euis = r.euis.items;
@@ -116,7 +116,7 @@ impl Recorder {
         let world = World::new(alloc)?;
         Ok(Recorder {
             world,
-            tale: Tale::new(alloc),
+            run_record: RunRecord::new(alloc),
             more: Vec::new(alloc),
             counters: Counters::new(alloc),
             euis: Vec::new(alloc),
@@ -132,7 +132,7 @@ impl Recorder {
         0 < self.world.counts().forged
     }
 
-    // Adds the flight of this number to the tale, if there is one.
+    // Adds the flight of this number to the record, if there is one.
     #[tactic(auto, unfolding(crate::specs::Recordings::flight_recorded))]
     fn push_flight(&mut self, number: u32) -> Result<(), AllocError>
         ensures { OnOk result (self.new ≡ recordings.flight_recorded number self.old) }
@@ -146,13 +146,14 @@ impl Recorder {
         let is_open = decrypt_octets(octets, &key, &mut self.aes, &mut self.opened);
         let payload = payload_in(is_open, &self.opened);
         let device = device_of(&frame_target(octets), payload, self.euis.as_slice());
-        self.tale.push_flight(from, note, octets, payload, device)?;
+        self.run_record
+            .push_flight(from, note, octets, payload, device)?;
         let more = more_of(octets, payload);
         self.more.push(more)?;
         self.counters.push(number, &more)
     }
 
-    // Adds so many flights after the one of this number.
+    // Adds this many flights after the one of this number.
     fn push_flights(&mut self, before: u32, count: u32) -> Result<(), AllocError>
         requires { before + count < 2 ^ 32 }
         ensures { OnOk result (self.new ≡ recordings.flights_recorded before count self.old) }
@@ -189,7 +190,7 @@ impl Recorder {
         }
     }
 
-    // Adds the event that made the world what it is, and the flights after so many.
+    // Adds the event that made the world what it is, and the flights after this many.
     #[tactic(auto, unfolding(crate::specs::Recordings::event_recorded))]
     fn record(
         &mut self,
@@ -203,7 +204,8 @@ impl Recorder {
         let same = self.same_flight(event);
         push_eui(&mut self.euis, made_eui(event))?;
         let clock = self.world.clock();
-        self.tale.push_event(row, event, happenings, clock, same)?;
+        self.run_record
+            .push_event(row, event, happenings, clock, same)?;
         let count = self.world.counts().flights.saturating_sub(before);
         self.push_flights(before, count)
     }

@@ -3,7 +3,7 @@ ghost use Rattle.std.specs.Prelude.{◌≡◌, IfOk, OnOk, ℕ, []};
 ghost use Rattle.line_events.specs.Events.{IsEvent};
 ghost use Rattle.script_lines.specs.Clauses.{GoesOn, StopsWith, Turned};
 ghost use Rattle.script_lines.specs.Lines.{Content, Text};
-ghost use Rattle.script_runs.specs.Takings.{Skipped, event_taking};
+ghost use Rattle.script_runs.specs.TakenLines.{Skipped, event_taking};
 ghost use Rattle.line_view.specs.RunMachines.{RunRules, Stepped, end_of, forged_if, found_status, refused_text, stops_at_too_much, turn_by, turn_of};
 
 use crate::bad_line::{BadLine, bad_line};
@@ -170,7 +170,7 @@ impl<M: RunMachine> LineMachine for Lines<M> {
 
     ghost stops = { stops_at_too_much M.rules };
 
-    #[tactic(auto, unfolding(script_runs::specs::Takings::taking), using(script_lines::proofs::Turned::stopped))]
+    #[tactic(auto, unfolding(script_runs::specs::TakenLines::taking), using(script_lines::proofs::Turned::stopped))]
     fn take<K: Sink>(
         &mut self,
         number: u32,

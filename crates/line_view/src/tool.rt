@@ -6,7 +6,7 @@ ghost use Rattle.story_accounts.specs.declared.section.Chosen.{Chosen};
 ghost use Rattle.line_view.specs.declared.capture.Wanted.{Wanted};
 ghost use Rattle.line_view.specs.RunMachines.{FollowsRun, outcome_by};
 ghost use Rattle.program_ends.specs.Texts.{WritesText};
-ghost use Rattle.line_view.specs.Truths.{UpsAreTold};
+ghost use Rattle.line_view.specs.Truths.{UpsAreWorded};
 ghost use Rattle.line_view.specs.Tool.{Accounts, Captures, Checks, Explains, Pages, capture_with, check_with, chosen_by};
 ghost use Rattle.line_view.specs.Tool.{command_of, explain_with, one_word, three_words, two_words, usage_text, wanted_word};
 
@@ -262,7 +262,7 @@ const USAGE: &[u8; 114] =
 ///
 /// `check` reads a script and writes what is wrong with each of its lines, `check --json` the same as objects of JSON. `explain` writes what
 /// became of each datagram and each joining, with `send K` or `node N` of those alone; where the run has no such send or node it says which there
-/// are, with the status of words of no form. `page` writes a page of HTML that shows the run. `capture`
+/// are, with the status of words invalid. `page` writes a page of HTML that shows the run. `capture`
 /// writes the frames as a capture, with `--heard` each arrival too, `keys` the keys and `addresses` the short addresses of a run, as Wireshark
 /// reads them. Other words write the usage line, and read nothing. Where a read fails, `check` wrote what it found in the lines before it, the others
 /// nothing.
@@ -294,7 +294,7 @@ pub fn run_view<S: Source, K: Sink>(
     ensures usage { command_of words.now ≡ None
         → (source.new ≡ source.old) × WritesText usage_text Status.Usage (K.state sink.old) (K.state sink.new) result }
     // What is said of a datagram that is handed up is true of the run.
-    ensures truth { UpsAreTold }
+    ensures truth { UpsAreWorded }
     // A fault has its cause outside.
     ensures read { result ≡ Status.ReadFault → SourceRose (S.state source.old) (S.state source.new) }
     ensures write { result ≡ Status.WriteFault → SinkRose (K.state sink.old) (K.state sink.new) }

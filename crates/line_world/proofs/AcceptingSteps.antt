@@ -6,18 +6,18 @@ use Rattle.plc_base.specs.declared.out_frame.Out.{Out}
 use Rattle.node_rules.specs.Accepted.{Accepted}
 use Rattle.node_rules.specs.declared.refusal.FrameRefusal.{FrameRefusal}
 use Rattle.node_rules.specs.declared.refusal.FrameRefusal.TheVariants.{Halted}
-use Rattle.node_rules.specs.Carrying.{Carries}
+use Rattle.node_rules.specs.CarriedPlans.{Carries}
 use Rattle.node_rules.specs.States.{State}
 use Rattle.node_rules.specs.Frames.{Arrived}
 use Rattle.node_rules.specs.Memory.{StationMemory}
 use Rattle.node_rules.specs.Laws.{WaitingFits}
-use Rattle.node_rules.specs.Accepting.{accept}
-use Rattle.meter_node.specs.Hearing.{CameUp}
+use Rattle.node_rules.specs.Acceptance.{accept}
+use Rattle.meter_node.specs.MeterAnswers.{CameUp}
 use Rattle.meter_node.specs.MeterStates.{MeterState, memory_with}
 use Rattle.meter_node.proofs.AcceptingRules.{accepted_came}
 use Rattle.line_world.specs.Nodes.{of_meter}
-use Rattle.line_world.specs.Receiving.{MayHear}
-use Rattle.line_world.proofs.MeterActing.{with_its}
+use Rattle.line_world.specs.Receptions.{MayHear}
+use Rattle.line_world.proofs.MeterActs.{with_its}
 
 -- what holds of what a station holds, of its meter's memory
 of_memory : (y : MeterState) (o : Option StationMemory) (got : Accepted) → IsSome o → IfSome o (CameUp got.path)

@@ -15,7 +15,7 @@ use Rattle.plc_base.specs.Fields.{AreOctets}
 use Rattle.plc_base.specs.declared.tags.PairTag.{PairTag}
 use Rattle.mesh_header.specs.declared.unit.Unit.{Unit as MeshUnit}
 use Rattle.mesh_header.specs.declared.unit.Unit.TheVariants as units
-use Rattle.mesh_header.specs.Reading.{unit_in}
+use Rattle.mesh_header.specs.Reader.{unit_in}
 use Rattle.mesh_header.proofs.UnitOctets.{read_octets}
 use Rattle.eap_psk.specs.declared.server.Agreed.{Agreed}
 use Rattle.node_rules.specs.Accepted.{Accepted}
@@ -25,8 +25,8 @@ use Rattle.node_rules.specs.declared.refusal.Dropped.TheVariants as drops
 use Rattle.node_rules.specs.declared.refusal.FrameRefusal.{FrameRefusal}
 use Rattle.node_rules.specs.declared.refusal.FrameRefusal.TheVariants as frame_refusals
 use Rattle.node_rules.specs.declared.heard.Reply.{Reply}
-use Rattle.node_rules.specs.Accepting.{accept, same_eui}
-use Rattle.node_rules.specs.Carrying.{nothing}
+use Rattle.node_rules.specs.Acceptance.{accept, same_eui}
+use Rattle.node_rules.specs.CarriedPlans.{nothing}
 use Rattle.node_rules.specs.Ciphers.{network}
 use Rattle.node_rules.specs.Coordinators as coordinator_rules
 use Rattle.node_rules.specs.Frames.{arrived, spelled}
@@ -38,16 +38,16 @@ use Rattle.node_rules.specs.Replies.{reply_among}
 use Rattle.node_rules.specs.Tables.{HasShortTables}
 use Rattle.node_rules.proofs.LogPuts.{stations_leave_log}
 use Rattle.pan_discovery.specs.declared.message.Discovery.{Discovery}
-use Rattle.pan_discovery.specs.Reading.{discovery_in}
+use Rattle.pan_discovery.specs.Reader.{discovery_in}
 use Rattle.reach_rules.specs.Beacons.{is_discovery}
 use Rattle.reach_rules.specs.CheckedReplies.{message_of}
 use Rattle.reach_rules.specs.ReachingNodes.{Beside}
-use Rattle.reach_rules.specs.Receiving.{NeighbourCommand, command_of, command_on, command_with}
+use Rattle.reach_rules.specs.FurtherReceptions.{NeighbourCommand, command_of, command_on, command_with}
 use Rattle.line_flights.specs.declared.flights.Origin.{Origin}
 use Rattle.line_flights.specs.Flown.{Flown, not_lost}
 use Rattle.line_world.specs.declared.nodes.reception.Reception as receiving
 use Rattle.line_world.specs.NodeOutcomes.{Did}
-use Rattle.line_world.specs.Receiving.{Received, handed_up}
+use Rattle.line_world.specs.Receptions.{Received, handed_up}
 use Rattle.line_events.specs.declared.event.StepFault.TheVariants as faults
 use Rattle.line_events.specs.declared.event.TheConstants.{MAX_EVENTS}
 use Rattle.line_events.specs.declared.happenings.Happenings.{Happenings}
@@ -65,12 +65,12 @@ use Rattle.line_world.specs.Arrivals.{outcome_of_checked, outcome_of_arrival, do
 use Rattle.line_world.specs.Arrivals.{left_of, note_in, outcome_of_reception, reception_happenings, taker_in, outcome_of_unbelieved}
 use Rattle.line_world.specs.Arrivals.{outcome_of_command as heard_by_command}
 use Rattle.line_world.specs.Bounds.{IsBounded}
-use Rattle.line_world.specs.Discovering.{discovered_by, discovered_in}
-use Rattle.line_world.specs.Finding.{found}
+use Rattle.line_world.specs.Discovery.{discovered_by, discovered_in}
+use Rattle.line_world.specs.NamedNodes.{found}
 use Rattle.line_world.specs.Soundness.{AreShort, IsShort}
 use Rattle.line_world.specs.Steps.{Steps}
-use Rattle.line_world.proofs.Taking.{IsThere, after, at_node, begun, bounded_after, has_coordinator, is_taken_so, is_there, many_given, refused, steps_as}
-use Rattle.line_world.proofs.Taking.{after_is}
+use Rattle.line_world.proofs.EventSteps.{IsThere, after, at_node, begun, bounded_after, has_coordinator, is_taken_so, is_there, many_given, refused, steps_as}
+use Rattle.line_world.proofs.EventSteps.{after_is}
 
 -- # Flights
 
@@ -147,7 +147,7 @@ at_some [] number less = absurd (omega (arith, less))
 at_some (x ∷ xs) zero less = (x, refl)
 at_some (x ∷ xs) (suc n) less = let below : n < length xs = omega (arith, less) in at_some xs n below
 
--- what is told of the node of a number
+-- what is reported of the node of a number
 pub at_node_after : (nodes : List Node) (number : ℕ) (x : Node) (P : Node → Type 0) → slice_get nodes number ≡ Some x → IfSome (slice_get nodes number) P → P x
 at_node_after nodes number x P at world_after = subst (λ (o : Option Node). IfSome o P) at world_after
 

@@ -5,7 +5,7 @@ use Rattle.plc_base.specs.declared.keeper.BadStore.{BadStore}
 use Rattle.plc_base.specs.declared.out_frame.Out.{Out}
 use Rattle.neighbour_checks.specs.Neighbours.{nobody}
 use Rattle.broadcast_log.specs.Log.{log_at_rest}
-use Rattle.broadcast_log.proofs.Reopening.{reopens}
+use Rattle.broadcast_log.proofs.ReopenedLogs.{reopens}
 use Rattle.pan_discovery.specs.History.{ended}
 use Rattle.store_tables.specs.SlotTables.{read_into}
 use Rattle.node_rules.specs.Ciphers.{network}
@@ -23,10 +23,10 @@ use Rattle.line_rules.specs.Worlds.{Further, World, Trace}
 use Rattle.line_rules.proofs.LogSteps.{halted_in, log_at, logged_at}
 use Rattle.line_world.specs.Bounds.{IsBounded}
 use Rattle.line_world.specs.NodeOutcomes.{Did}
-use Rattle.line_world.specs.Reaching.{ReachedFirst}
+use Rattle.line_world.specs.FurtherOutcomes.{ReachedFirst}
 use Rattle.line_world.specs.Steps.{Steps}
-use Rattle.line_world.proofs.Settings.{bounded_beside}
-use Rattle.line_world.proofs.Taking.{IsThere, after, node_acted, steps_as, holds_there}
+use Rattle.line_world.proofs.SetupSteps.{bounded_beside}
+use Rattle.line_world.proofs.EventSteps.{IsThere, after, node_acted, steps_as, holds_there}
 
 -- each node has something beside it
 pub beside_long : (bs : List Beside) (ns : List Node) → AreLogged bs ns → length bs ≡ length ns

@@ -20,9 +20,9 @@ use Rattle.broadcast_log.specs.Grammar.{spelling}
 use Rattle.broadcast_log.specs.Log.{Log, admitted_log, empty_log, numbered_log}
 use Rattle.broadcast_log.specs.NextNumber.{Numbering, is_spent, number_put}
 use Rattle.broadcast_log.specs.OriginMarks.{keep_write, room_for}
-use Rattle.broadcast_log.specs.Reading.{broadcast_in}
-use Rattle.node_rules.specs.Carrying.{Carries, given, nothing}
-use Rattle.node_rules.specs.Composing.{behind}
+use Rattle.broadcast_log.specs.Reader.{broadcast_in}
+use Rattle.node_rules.specs.CarriedPlans.{Carries, given, nothing}
+use Rattle.node_rules.specs.ComposedPlans.{behind}
 use Rattle.node_rules.specs.Drafts.{Ends, alone, checked, choose, counters_left, empty_draft, goes, refused, sealed, sealing}
 use Rattle.node_rules.specs.declared.refusal.Dropped.TheVariants.{BadUnit, CounterSpent, Store as PutFailed}
 use Rattle.node_rules.specs.declared.refusal.LocalRefusal.{LocalRefusal}
@@ -31,9 +31,9 @@ use Rattle.node_rules.specs.Memory.{StationMemory, address_of}
 use Rattle.node_rules.specs.Neighbours.{CarriesAfter, followed, local_draft, local_ends, send_local}
 use Rattle.node_rules.specs.Plans.{Plan, resting, within}
 use Rattle.node_rules.specs.States.{State}
-use Rattle.node_rules.proofs.Composing.{reserve_none, reserved_none}
-use Rattle.plc_station.proofs.Carrying.{at_some, resting_carried}
-use Rattle.plc_station.proofs.Ending.{sealed_none}
+use Rattle.node_rules.proofs.ComposedPlans.{reserve_none, reserved_none}
+use Rattle.plc_station.proofs.CarriedPlans.{at_some, resting_carried}
+use Rattle.plc_station.proofs.EndedSteps.{sealed_none}
 use Rattle.plc_station.proofs.Ways.{enough, too_few}
 use Rattle.reach_rules.specs.declared.heard.CommandHeard.{CommandHeard}
 use Rattle.reach_rules.specs.declared.heard.CommandHeard.TheVariants as heard
@@ -45,7 +45,7 @@ use Rattle.reach_rules.specs.Broadcasts.{hear_broadcast, hear_broadcast_in, hop_
 use Rattle.reach_rules.specs.ReachingNodes.{Beside, Reaching, in_reach, reach_ends, adds_local}
 use Rattle.line_events.specs.declared.event.Answer.TheVariants as answers
 use Rattle.line_rules.specs.Further.{without_log}
-use Rattle.line_world.specs.Reaching.{Reaches, ReachesCommand, ReachesFirst, beside_left, handed_up, of_held, ended_by}
+use Rattle.line_world.specs.FurtherOutcomes.{Reaches, ReachesCommand, ReachesFirst, beside_left, handed_up, of_held, ended_by}
 use Rattle.line_world.proofs.FurtherPlans.{first_rests, rests_after, local_answer}
 
 -- # A record first

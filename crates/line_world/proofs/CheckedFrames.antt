@@ -28,12 +28,12 @@ use Rattle.line_world.specs.declared.nodes.reception.Reception as receiving
 use Rattle.line_world.specs.Arrivals.{Acknowledges, acknowledging_if, outcome_of_checked, in_run, left_of, reception_happenings, with_check_of}
 use Rattle.line_world.specs.Bounds.{IsBounded}
 use Rattle.line_world.specs.Lines.{HasRoom}
-use Rattle.line_world.specs.Receiving.{MayHear, Received}
+use Rattle.line_world.specs.Receptions.{MayHear, Received}
 use Rattle.line_world.specs.Steps.{Steps}
 use Rattle.line_world.proofs.Arrivals.{as_many, at_node_after, at_some, in_run_again}
-use Rattle.line_world.proofs.Hearings.{IsDue, is_due, joined, reply_few, unacknowledged, was_checked, was_unacknowledged}
-use Rattle.line_world.proofs.Settings.{bounded_beside}
-use Rattle.line_world.proofs.Taking.{many_given}
+use Rattle.line_world.proofs.FurtherReceptions.{IsDue, is_due, joined, reply_few, unacknowledged, was_checked, was_unacknowledged}
+use Rattle.line_world.proofs.SetupSteps.{bounded_beside}
+use Rattle.line_world.proofs.EventSteps.{many_given}
 use Rattle.line_world.proofs.UnaskedReplies.{none_unasked}
 
 some_reply : (o : Option Reply) → IsSome o → (r : Reply) × (o ≡ Some r)

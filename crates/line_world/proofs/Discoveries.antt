@@ -13,14 +13,14 @@ use Rattle.plc_base.specs.Fields.{octet}
 use Rattle.plc_base.specs.Grant.{Granted}
 use Rattle.store_tables.specs.Writes.{Written, write, puts_of}
 use Rattle.joining_messages.specs.declared.message.JoinBody.TheVariants as body
-use Rattle.node_rules.specs.Joining.{message}
+use Rattle.node_rules.specs.JoiningPackets.{message}
 use Rattle.pan_discovery.specs.declared.message.Discovery.{Discovery}
 use Rattle.pan_discovery.specs.declared.message.Discovery.TheVariants as discoveries
 use Rattle.pan_discovery.specs.Agents.{kth_of}
 use Rattle.pan_discovery.specs.History.{Scanned, begun}
 use Rattle.node_rules.specs.declared.refusal.JoinRefusal.{JoinRefusal}
 use Rattle.node_rules.specs.declared.refusal.JoinRefusal.TheVariants as joins
-use Rattle.node_rules.specs.Accepting.{is_own}
+use Rattle.node_rules.specs.Acceptance.{is_own}
 use Rattle.node_rules.specs.Ciphers.{network}
 use Rattle.node_rules.specs.Drafts.{choose as choose_plan, empty_draft, refused, sealing}
 use Rattle.node_rules.specs.Memory.{ByAgent, Memory, Node, Role, StationMemory, address_of, node_address}
@@ -28,7 +28,7 @@ use Rattle.node_rules.specs.MemoryDrafts.{goes_up, in_memory, with_memory_by}
 use Rattle.node_rules.specs.Meters as meters
 use Rattle.node_rules.specs.NodeSteps.{NodeStep, acts, answering, left_by, stays}
 use Rattle.node_rules.specs.Plans.{Plan, carry_out, finished, halted as cut_off, resting, within}
-use Rattle.node_rules.proofs.Composing.{reserve_none}
+use Rattle.node_rules.proofs.ComposedPlans.{reserve_none}
 use Rattle.reach_rules.specs.declared.heard.DiscoveryHeard.TheVariants as discovered
 use Rattle.reach_rules.specs.declared.refusal.ChooseRefusal.{ChooseRefusal}
 use Rattle.reach_rules.specs.declared.refusal.ChooseRefusal.TheVariants as choices
@@ -50,14 +50,14 @@ use Rattle.line_rules.specs.Further.{has_discovered, has_reached, reaches, scan,
 use Rattle.line_rules.specs.Steps.{happenings, identity, psk_of, running_world, node_trace, world_after}
 use Rattle.line_rules.specs.Worlds.{Noticed, Trace, World}
 use Rattle.line_world.specs.Bounds.{IsBounded}
-use Rattle.line_world.specs.Discovering.{HearsBeacon, TakesBeacon, flies_in, joins_in, taken_by}
+use Rattle.line_world.specs.Discovery.{HearsBeacon, TakesBeacon, flies_in, joins_in, taken_by}
 use Rattle.line_world.specs.NodeOutcomes.{Did}
 use Rattle.line_world.specs.Soundness.{AreBelow, IsBelow}
 use Rattle.line_world.specs.Steps.{Steps}
 use Rattle.line_world.proofs.HeardCommands.{beside_same, set_same}
 use Rattle.line_world.proofs.Orders.{IsMeter, Runs, at_meter}
-use Rattle.line_world.proofs.Settings.{bounded_beside}
-use Rattle.line_world.proofs.Taking.{IsThere, after, bounded_by, is_taken_so, node_acted, begun as begun_so}
+use Rattle.line_world.proofs.SetupSteps.{bounded_beside}
+use Rattle.line_world.proofs.EventSteps.{IsThere, after, bounded_by, is_taken_so, node_acted, begun as begun_so}
 
 -- # Octets of discovery
 

@@ -5,7 +5,7 @@ use Rattle.std.specs.Option.{option_map}
 use Rattle.std.specs.List.{position_or_len}
 use Rattle.std.proofs.lemmas.Bool.{le-ltb, lt-ltb, ltb-false, ltb-true}
 use Rattle.plc_base.specs.declared.address.Eui.{Eui}
-use Rattle.node_rules.specs.Accepting.{same_eui}
+use Rattle.node_rules.specs.Acceptance.{same_eui}
 use Rattle.node_rules.specs.Memory.{Node}
 use Rattle.coordinator.specs.CoordinatorStates.{CoordinatorState}
 use Rattle.meter_node.specs.MeterStates.{MeterState}

@@ -19,7 +19,7 @@ use Rattle.path_requests.specs.declared.message.PathMessage.TheVariants.{Ask, Te
 use Rattle.path_requests.specs.Messages.{IsPath, path_spelling}
 use Rattle.path_requests.specs.Walks.{walk_octets}
 use Rattle.node_rules.specs.declared.refusal.Dropped.TheVariants.{BadUnit}
-use Rattle.node_rules.specs.Carrying.{Carries, nothing}
+use Rattle.node_rules.specs.CarriedPlans.{Carries, nothing}
 use Rattle.node_rules.specs.declared.refusal.LocalRefusal.{LocalRefusal}
 use Rattle.node_rules.specs.declared.refusal.LocalRefusal.TheVariants as locals
 use Rattle.node_rules.specs.Drafts.{Ends, alone, choose, counters_left, empty_draft, goes, refused, sealed, sealing}
@@ -27,19 +27,19 @@ use Rattle.node_rules.specs.Memory.{StationMemory, address_of, station_route}
 use Rattle.node_rules.specs.Neighbours.{CarriesAfter, followed, local_draft, local_ends, send_local}
 use Rattle.node_rules.specs.Plans.{Plan, resting, within}
 use Rattle.node_rules.specs.States.{State}
-use Rattle.plc_station.proofs.Carrying.{resting_carried}
+use Rattle.plc_station.proofs.CarriedPlans.{resting_carried}
 use Rattle.reach_rules.specs.declared.refusal.ReachDropped.{ReachDropped}
 use Rattle.reach_rules.specs.declared.refusal.ReachDropped.TheVariants.{Known, NotAwaited, Old}
 use Rattle.reach_rules.specs.Broadcasts.{broadcast_fault, mark_fault}
 use Rattle.reach_rules.specs.declared.refusal.AskRefusal.TheVariants as asks
-use Rattle.reach_rules.specs.PathAsking.{ask_ends, ask_path, asks_from}
+use Rattle.reach_rules.specs.PathRequests.{ask_ends, ask_path, asks_from}
 use Rattle.reach_rules.specs.declared.heard.CommandHeard.{CommandHeard}
 use Rattle.reach_rules.specs.declared.heard.CommandHeard.TheVariants.{Acked}
 use Rattle.reach_rules.specs.CheckedReplies.{hear_acknowledgement_in}
 use Rattle.reach_rules.specs.ReachingNodes.{Beside, Reaching, drop_it, in_reach, nothing_beside, remembers, adds_local, with_checks}
-use Rattle.reach_rules.specs.Receiving.{NeighbourCommand}
+use Rattle.reach_rules.specs.FurtherReceptions.{NeighbourCommand}
 use Rattle.line_rules.specs.Further.{without_log}
-use Rattle.line_world.specs.Reaching.{EndsCheck, Reaches, ReachesFirst, beside_left, check_ended, of_held}
+use Rattle.line_world.specs.FurtherOutcomes.{EndsCheck, Reaches, ReachesFirst, beside_left, check_ended, of_held}
 
 -- # How long path messages are
 

@@ -15,19 +15,19 @@ use Rattle.plc_base.specs.declared.out_frame.Out.{Out}
 use Rattle.plc_base.specs.Keeper.{Write}
 use Rattle.mesh_header.specs.declared.unit.Unit.{Unit as MeshUnit}
 use Rattle.mesh_header.specs.declared.unit.Unit.TheVariants as units
-use Rattle.mesh_header.specs.Reading.{unit_in}
+use Rattle.mesh_header.specs.Reader.{unit_in}
 use Rattle.broadcast_log.specs.Log.{AgreesWith}
 use Rattle.node_rules.specs.Accepted.{Accepted}
 use Rattle.node_rules.specs.declared.heard.Heard.TheVariants as heard_words
 use Rattle.node_rules.specs.declared.heard.Path.{Path}
 use Rattle.node_rules.specs.declared.heard.Path.TheVariants as paths
 use Rattle.node_rules.specs.declared.refusal.Dropped.TheVariants as drops
-use Rattle.node_rules.specs.Carrying.{nothing}
+use Rattle.node_rules.specs.CarriedPlans.{nothing}
 use Rattle.node_rules.specs.Ciphers.{network}
 use Rattle.node_rules.specs.Coordinators as coordinator_rules
 use Rattle.node_rules.specs.Drafts.{choose as choose_plan}
 use Rattle.node_rules.specs.Frames.{spelled}
-use Rattle.node_rules.specs.Hearing.{Hearing, drop_it, hear, hear_sealed, hear_unit_in}
+use Rattle.node_rules.specs.HearingRules.{Hearing, drop_it, hear, hear_sealed, hear_unit_in}
 use Rattle.node_rules.specs.LogSlots.{IsBesideLog, LeavesLog}
 use Rattle.node_rules.specs.Memory.{Memory, Node, Role, Coordinator, Meter, StationMemory, address_of}
 use Rattle.node_rules.specs.MemoryDrafts.{in_memory, unread}
@@ -39,7 +39,7 @@ use Rattle.reach_rules.specs.declared.heard.CommandHeard.{CommandHeard}
 use Rattle.reach_rules.specs.declared.refusal.ReachDropped.{ReachDropped}
 use Rattle.reach_rules.specs.declared.refusal.ReachDropped.TheVariants.{Known}
 use Rattle.reach_rules.specs.ReachingNodes.{Beside, Reaching, nothing_beside}
-use Rattle.reach_rules.specs.Receiving.{NeighbourCommand, command_of, command_on, command_with, hear_command}
+use Rattle.reach_rules.specs.FurtherReceptions.{NeighbourCommand, command_of, command_on, command_with, hear_command}
 use Rattle.line_flights.specs.declared.flights.Origin.{Origin}
 use Rattle.line_events.specs.declared.event.Answer.TheVariants as answers
 use Rattle.line_events.specs.declared.event.TheConstants.{MAX_EVENTS}
@@ -55,11 +55,11 @@ use Rattle.line_world.specs.declared.nodes.reception.Reception as receiving
 use Rattle.line_world.specs.Arrivals.{done_in, in_run, left_of, reception_happenings, outcome_of_unbelieved, outcome_of_command as heard_by_command}
 use Rattle.line_world.specs.Bounds.{IsBounded}
 use Rattle.line_world.specs.NodeOutcomes.{given_by}
-use Rattle.line_world.specs.Reaching.{DidAfter, IsLogOf, ReachedCommand, given_after}
-use Rattle.line_world.specs.Receiving.{Received}
+use Rattle.line_world.specs.FurtherOutcomes.{DidAfter, IsLogOf, ReachedCommand, given_after}
+use Rattle.line_world.specs.Receptions.{Received}
 use Rattle.line_world.specs.Steps.{Steps}
 use Rattle.line_world.proofs.Arrivals.{acts_eui, at_node_after, hears_eui, left_bounded, received_left, received_many, received_said, same_number, was_received}
-use Rattle.line_world.proofs.Taking.{after, is_taken_so, many_given, after_is}
+use Rattle.line_world.proofs.EventSteps.{after, is_taken_so, many_given, after_is}
 
 -- # Lists of nodes and of what stands beside them
 
@@ -76,7 +76,7 @@ beside_same (b ∷ bs) (suc number) = ap (λ (cs : List Beside). b ∷ cs) (besi
 
 -- # A request that is not believed
 
--- what is told of it
+-- what is reported of it
 abbrev pub blacklisted : receiving.Reception
 blacklisted = record { answer = answers.Blacklisted; up = None; took = false; done = None; replied = None }
 

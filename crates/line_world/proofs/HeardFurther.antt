@@ -5,14 +5,14 @@ use Rattle.node_rules.specs.Accepted.{Accepted}
 use Rattle.node_rules.specs.Ciphers.{network}
 use Rattle.node_rules.specs.Memory.{Node}
 use Rattle.reach_rules.specs.CheckedReplies.{is_unbelieved, message_of}
-use Rattle.reach_rules.specs.Receiving.{NeighbourCommand, command_of}
+use Rattle.reach_rules.specs.FurtherReceptions.{NeighbourCommand, command_of}
 use Rattle.line_flights.specs.declared.flights.Origin.{Origin}
 use Rattle.line_events.specs.declared.happenings.Happenings.{Happenings}
 use Rattle.line_rules.specs.Further.{beside_at, is_dropped}
 use Rattle.line_rules.specs.Worlds.{Trace, World}
 use Rattle.line_world.specs.Arrivals.{outcome_of_checked, outcome_of_further, outcome_of_hearing, outcome_of_unbelieved, outcome_of_command as heard_by_command}
 use Rattle.line_world.specs.Steps.{Steps}
-use Rattle.line_world.proofs.Hearings.{command_heard}
+use Rattle.line_world.proofs.FurtherReceptions.{command_heard}
 
 module _ (w : World) (number : ℕ) (x : Node) (got : Accepted) (origin : Origin) (cost : ℕ) where
   by_dropped : (b : Bool) → is_dropped w number got ≡ b → outcome_of_further network w number x got origin cost

@@ -8,9 +8,9 @@ use Rattle.node_rules.specs.declared.heard.MeterHeard.{MeterHeard}
 use Rattle.node_rules.specs.declared.heard.Reply.{Reply}
 use Rattle.node_rules.specs.declared.refusal.Dropped.{Dropped}
 use Rattle.node_rules.specs.declared.refusal.Dropped.TheVariants as drops
-use Rattle.node_rules.specs.Carrying.{Carries}
+use Rattle.node_rules.specs.CarriedPlans.{Carries}
 use Rattle.node_rules.specs.Ciphers.{network}
-use Rattle.node_rules.specs.Hearing.{hear}
+use Rattle.node_rules.specs.HearingRules.{hear}
 use Rattle.node_rules.specs.Memory.{StationMemory, Memory, Meter, Node}
 use Rattle.node_rules.specs.MemoryDrafts.{unread}
 use Rattle.node_rules.specs.Meters as meters
@@ -21,14 +21,14 @@ use Rattle.node_rules.proofs.TablePlans.{meters_in_place}
 use Rattle.reach_rules.specs.CheckedReplies.{message_of}
 use Rattle.line_rules.specs.Answers as rules
 use Rattle.line_rules.specs.Steps.{hearing_step}
-use Rattle.meter_node.specs.Hearing.{CameUp}
+use Rattle.meter_node.specs.MeterAnswers.{CameUp}
 use Rattle.meter_node.specs.MeterStates.{MeterState, memory_with, node_of, identity_of}
 use Rattle.line_world.specs.declared.nodes.reception.Reception.{Reception}
 use Rattle.line_world.specs.Nodes.{of_meter}
-use Rattle.line_world.specs.Receiving.{MayHear, CameTo, ReportsReception}
+use Rattle.line_world.specs.Receptions.{MayHear, CameTo, ReportsReception}
 use Rattle.line_world.specs.Soundness.{IsSoundMeter}
-use Rattle.line_world.proofs.Acting.{Took, at, not_none}
-use Rattle.line_world.proofs.MeterActing.{meter_took, meter_sound}
+use Rattle.line_world.proofs.NodeActs.{Took, at, not_none}
+use Rattle.line_world.proofs.MeterActs.{meter_took, meter_sound}
 use Rattle.line_world.proofs.ReportedReplies.{messages_unread, parts_of, there_is, reply_is}
 
 pub running : (x : MeterState) (got : Accepted) → MayHear (of_meter x) got → IsSome x.station.memory
@@ -69,7 +69,7 @@ module _ (x y : MeterState) (got : Accepted) (cost note now : ℕ) (r : Result M
       meter_sound x y (Err drops.Store) plan r out (λ m short. (meters_in_place (identity_of x) m short).hears got cost note now) sound
       (not_none (node_of x).memory _ may.running) carries agrees
 
-  -- the reply that it tells of a route message is among the frames of its step
+  -- the reply that it reports of a route message is among the frames of its step
   pub replied_is : y.psk ≡ x.psk → IfSome (node_of x).memory (λ m. Carries (node_of x) (plan m) r out (node_of y)) → (last reported : Option Reply)
       → parts_of reported ≡ parts_of last
       → IfSome (node_of x).memory (λ m. unread (hear m.station got cost note now).answer ≡ None → last ≡ reply_sent (plan m) (node_of y).memory)

@@ -12,7 +12,7 @@ use Rattle.node_rules.specs.declared.refusal.FrameRefusal.{FrameRefusal}
 use Rattle.node_rules.specs.declared.refusal.Dropped.TheVariants.{Store as Unstored}
 use Rattle.node_rules.specs.Agreement.{Agrees}
 use Rattle.node_rules.specs.Agreement as agreement
-use Rattle.node_rules.specs.Carrying.{nothing}
+use Rattle.node_rules.specs.CarriedPlans.{nothing}
 use Rattle.node_rules.specs.Drafts.{alone}
 use Rattle.node_rules.specs.Memory.{StationMemory, Memory, Node, Role, Coordinator, Meter}
 use Rattle.node_rules.specs.MemoryDrafts.{in_memory, with_station}
@@ -25,23 +25,23 @@ use Rattle.reach_rules.specs.declared.refusal.ReachDropped.{ReachDropped}
 use Rattle.reach_rules.specs.declared.refusal.ReachDropped.TheVariants.{Known}
 use Rattle.reach_rules.specs.Beacons.{cost_to_coordinator}
 use Rattle.reach_rules.specs.ReachingNodes.{Beside, Reaching}
-use Rattle.reach_rules.specs.Receiving.{NeighbourCommand, hear_command}
+use Rattle.reach_rules.specs.FurtherReceptions.{NeighbourCommand, hear_command}
 use Rattle.line_rules.specs.Further.{reaches}
 use Rattle.coordinator.specs.CoordinatorStates.{CoordinatorState}
 use Rattle.meter_node.specs.MeterStates.{MeterState}
 use Rattle.line_world.specs.declared.nodes.command.Commanded.{Commanded}
 use Rattle.line_world.specs.NodeOutcomes.{Did}
 use Rattle.line_world.specs.Nodes.{node_in, nodes_in}
-use Rattle.line_world.specs.Reaching.{DidAfter, IsLogOf, ReachedCommand, Reaches, ReachesCommand, ReachesFirst, ReachedFirst, ReportsCommand}
-use Rattle.line_world.specs.Receiving.{MayHear}
+use Rattle.line_world.specs.FurtherOutcomes.{DidAfter, IsLogOf, ReachedCommand, Reaches, ReachesCommand, ReachesFirst, ReachedFirst, ReportsCommand}
+use Rattle.line_world.specs.Receptions.{MayHear}
 use Rattle.line_world.specs.Soundness.{AreSound, IsSound, NodeAgreesWith}
-use Rattle.line_world.proofs.Acting.{Took}
-use Rattle.line_world.proofs.CoordinatorActing as coordinators
+use Rattle.line_world.proofs.NodeActs.{Took}
+use Rattle.line_world.proofs.CoordinatorActs as coordinators
 use Rattle.line_world.proofs.LentFurther.{command_lent}
 use Rattle.line_world.proofs.LentReaches.{AreLent, Added, TookAfter, adds, after_sound, after_took, alone_took, first_sound, first_took, log_of_station}
 use Rattle.line_world.proofs.LentReaches.{marks_short, node_halted, station_has}
 use Rattle.line_world.proofs.LentStations.{StationPlan, StationStayed, StationCarries, IsOwnPlan, holder, lent, lent_took, lent_sound, node_says}
-use Rattle.line_world.proofs.MeterActing as meters
+use Rattle.line_world.proofs.MeterActs as meters
 use Rattle.line_world.proofs.NumberedNodes as numbers
 
 -- The node of this number has a station, which was lent: what the node holds beside it, the nodes as they are with each station in its place, and

@@ -8,14 +8,14 @@ use Rattle.plc_base.specs.declared.out_frame.Out.{Out}
 use Rattle.plc_base.specs.Keeper.{Store}
 use Rattle.broadcast_log.specs.Log.{AgreesWith}
 use Rattle.node_rules.specs.Agreement.{Agrees}
-use Rattle.node_rules.specs.Carrying.{Carries, nothing}
+use Rattle.node_rules.specs.CarriedPlans.{Carries, nothing}
 use Rattle.node_rules.specs.Memory.{StationMemory, Memory, Node, Role}
 use Rattle.node_rules.specs.MemoryDrafts.{with_station}
 use Rattle.node_rules.specs.Neighbours.{CarriesAfter, followed}
 use Rattle.node_rules.specs.NodeSteps.{NodeStep, acts}
 use Rattle.node_rules.specs.Plans.{Plan, within}
 use Rattle.node_rules.specs.States.{State}
-use Rattle.node_rules.proofs.Composing.{carries_within}
+use Rattle.node_rules.proofs.ComposedPlans.{carries_within}
 use Rattle.node_rules.proofs.StationPuts.{stations_write_their_own}
 use Rattle.node_rules.proofs.TablePlans.{stations}
 use Rattle.node_rules.specs.Drafts.{alone}
@@ -24,9 +24,9 @@ use Rattle.reach_rules.specs.CheckedReplies.{acknowledges}
 use Rattle.reach_rules.specs.ReachingNodes.{Beside, Reaching}
 use Rattle.line_rules.specs.Further.{beside_after, reaches, with_beside, without_log}
 use Rattle.line_world.specs.Nodes.{node_in}
-use Rattle.line_world.specs.Reaching.{Reaches, ReachesFirst, beside_left, given_after, of_held}
+use Rattle.line_world.specs.FurtherOutcomes.{Reaches, ReachesFirst, beside_left, given_after, of_held}
 use Rattle.line_world.specs.Soundness.{IsSound}
-use Rattle.line_world.proofs.Acting.{Took, took}
+use Rattle.line_world.proofs.NodeActs.{Took, took}
 use Rattle.line_world.proofs.LentFurther.{Lent, node_side, station_side, owns_apart, places_apart}
 use Rattle.line_world.proofs.LentStations.{StationPlan, StationStayed, StationCarries, IsOwnPlan, holder, lent, lent_took, lent_sound, over, stays_lent}
 
@@ -250,7 +250,7 @@ marks_short s b h is = by s.memory h is
     by None k is = absurd (cc)
     by (Some l) k is = k.marks.short
 
--- # What is told of a station
+-- # What is reported of a station
 
 pub halted_says : {M : Type 0} (o : Option M) (r : Bool) → MatchBool r (o ≡ None) (IsSome o) → r ≡ not (is_some o)
 halted_says o true none = ap (λ k. not (is_some k)) (sym none)

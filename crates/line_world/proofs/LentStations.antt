@@ -14,21 +14,21 @@ use Rattle.group_keys.specs.KeyBook as book
 use Rattle.group_keys.specs.KeyRing.{ring_at, ring_slot}
 use Rattle.routing_set.specs.RoutingSet as routing
 use Rattle.node_rules.specs.declared.shown.Shown.{Shown}
-use Rattle.node_rules.specs.Accepting as accepting
+use Rattle.node_rules.specs.Acceptance as acceptance
 use Rattle.node_rules.specs.Agreement.{Agrees, AgreesWith}
 use Rattle.node_rules.specs.Calls as calls
-use Rattle.node_rules.specs.Carrying.{Carries, nothing}
-use Rattle.node_rules.specs.Composing.{seen}
+use Rattle.node_rules.specs.CarriedPlans.{Carries, nothing}
+use Rattle.node_rules.specs.ComposedPlans.{seen}
 use Rattle.node_rules.specs.Frames.{Arrived}
 use Rattle.node_rules.specs.Memory.{StationMemory, Memory, Role, Coordinator, Meter}
 use Rattle.node_rules.specs.MemoryDrafts.{with_station}
 use Rattle.node_rules.specs.NodeSteps.{acts, of_station, stays}
 use Rattle.node_rules.specs.Plans.{Plan, resting}
-use Rattle.node_rules.specs.Showing.{shown_station, nothing_shown}
+use Rattle.node_rules.specs.ShownNodes.{shown_station, nothing_shown}
 use Rattle.node_rules.specs.States.{State}
 use Rattle.node_rules.specs.StationSlots.{IsOfStation, WritesOfStation, SameMembership}
 use Rattle.node_rules.specs.Tables.{HasShortTables, IsInPlace, OfCoordinator, WritesInPlace}
-use Rattle.node_rules.proofs.Composing.{carries_within}
+use Rattle.node_rules.proofs.ComposedPlans.{carries_within}
 use Rattle.node_rules.proofs.StationPuts.{stations_write_their_own, writes_keep_membership}
 use Rattle.node_rules.proofs.TablePlans.{stations}
 use Rattle.coordinator.specs.CoordinatorAgreement.{HasCoordinatorAddress}
@@ -36,7 +36,7 @@ use Rattle.line_events.specs.declared.event.Answer.{Answer}
 use Rattle.line_events.specs.declared.event.Answer.TheVariants as answers
 use Rattle.line_world.specs.Nodes.{node_in, stored_in}
 use Rattle.line_world.specs.Soundness.{NodeAgreesWith, IsSound}
-use Rattle.line_world.proofs.Acting.{Took, took, known_after, tables_after, short_tables, StayedHalted}
+use Rattle.line_world.proofs.NodeActs.{Took, took, known_after, tables_after, short_tables, StayedHalted}
 
 -- the node over a station, by the memory beside it
 abbrev pub holder : Memory → State StationMemory → State Memory
@@ -100,7 +100,7 @@ sends_own e to octets note now =
       owns = λ l short. (stations_write_their_own l short).sends to octets note now;
     }
 
-pub accepts_own : (e : Eui) (a : Option Arrived) → IsOwnPlan (λ own l. accepting.accept l own a) e
+pub accepts_own : (e : Eui) (a : Option Arrived) → IsOwnPlan (λ own l. acceptance.accept l own a) e
 accepts_own e a = record { places = λ m short. (stations m.station m.book short).accepts e a; owns = λ l short. (stations_write_their_own l short).accepts e a }
 
 pub counter_own : (e : Eui) (value : ℕ) → IsOwnPlan (λ _ l. calls.preset_counter l value) e

@@ -1,19 +1,19 @@
-mod Acting
+mod NodeActs
 mod LentStations
-mod Breaking
-mod MeterActing
+mod BrokenLinks
+mod MeterActs
 mod Places
 mod AcceptingSteps
 mod HearingSteps
-mod Making
-mod CoordinatorActing
-mod CoordinatorHearing
-mod CoordinatorOpening
+mod NewMeters
+mod CoordinatorActs
+mod CoordinatorReceptions
+mod NewCoordinators
 mod Orders
-mod Taking
+mod EventSteps
 mod Arrivals
-mod Sendings
-mod Settings
+mod CountedSends
+mod SetupSteps
 pub mod FurtherPlans
 pub mod BroadcastPlans
 pub mod PathPlans
@@ -25,14 +25,14 @@ mod ReportedReplies
 mod UnaskedReplies
 mod NumberedNodes
 mod FirstNodes
-mod Comings
+mod ArrivedOctets
 mod Unchecked
 mod HeardCommands
-mod Hearings
+mod FurtherReceptions
 mod Discoveries
 mod Storable
 mod HeardFurther
-mod Calling
+mod FurtherCalls
 mod CheckedFrames
-mod Acknowledging
+mod ReplyChecks
 mod Reached

@@ -13,7 +13,7 @@ use Rattle.meter_node.specs.MeterStates.{MeterState}
 use Rattle.line_world.specs.NodeOutcomes.{Did}
 use Rattle.line_world.specs.Nodes.{nodes_in, of_coordinator, of_meter}
 use Rattle.line_world.specs.Soundness.{AreSound, IsSoundCoordinator, IsSoundMeter}
-use Rattle.line_world.proofs.Acting.{Took}
+use Rattle.line_world.proofs.NodeActs.{Took}
 use Rattle.line_world.proofs.Places.{found_in, sound_in}
 
 -- # A meter

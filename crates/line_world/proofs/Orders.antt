@@ -8,7 +8,7 @@ use Rattle.plc_base.specs.declared.address.Eui.{Eui}
 use Rattle.plc_base.specs.declared.out_frame.Out.{Out}
 use Rattle.node_rules.specs.declared.refusal.CoordinatorRefusal.{CoordinatorRefusal}
 use Rattle.node_rules.specs.declared.refusal.CoordinatorRefusal.TheVariants as orders
-use Rattle.node_rules.specs.Carrying.{nothing}
+use Rattle.node_rules.specs.CarriedPlans.{nothing}
 use Rattle.node_rules.specs.Ciphers.{network}
 use Rattle.node_rules.specs.Memory.{Memory, Node}
 use Rattle.node_rules.specs.NodeSteps.{NodeStep, acts}
@@ -24,9 +24,9 @@ use Rattle.line_rules.specs.Worlds.{World, Trace}
 use Rattle.line_rules.specs.Steps.{Step, admission_by, allowed, allowed_word, at_coordinator, by_coordinator, happenings, has_begun, on_meter, on_node}
 use Rattle.line_rules.specs.Steps.{once_begun, running_world, world_after, trace_of}
 use Rattle.line_world.specs.Bounds.{IsBounded}
-use Rattle.line_world.specs.Finding.{found, found_meter}
+use Rattle.line_world.specs.NamedNodes.{found, found_meter}
 use Rattle.line_world.specs.Steps.{HasMemory, Steps, is_memory}
-use Rattle.line_world.proofs.Taking.{IsThere, after, at_node, begun, bounded_after, is_there, node_acted, not_found, refused, steps_as, after_is}
+use Rattle.line_world.proofs.EventSteps.{IsThere, after, at_node, begun, bounded_after, is_there, node_acted, not_found, refused, steps_as, after_is}
 
 -- # The coordinator
 

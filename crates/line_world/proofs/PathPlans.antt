@@ -12,18 +12,18 @@ use Rattle.broadcast_log.specs.Log.{Log, empty_log}
 use Rattle.path_requests.specs.declared.message.PathMessage.{PathMessage}
 use Rattle.path_requests.specs.declared.message.PathMessage.TheVariants.{Ask}
 use Rattle.path_requests.specs.Messages.{path_spelling}
-use Rattle.path_requests.specs.Reading.{path_in}
-use Rattle.path_requests.specs.Taking.{taken}
+use Rattle.path_requests.specs.Reader.{path_in}
+use Rattle.path_requests.specs.PathSteps.{taken}
 use Rattle.node_rules.specs.declared.refusal.Dropped.TheVariants.{BadUnit, Store, CounterSpent}
 use Rattle.node_rules.specs.declared.refusal.LocalRefusal.{LocalRefusal}
 use Rattle.node_rules.specs.declared.refusal.LocalRefusal.TheVariants as locals
-use Rattle.node_rules.specs.Carrying.{Carries, given, nothing}
+use Rattle.node_rules.specs.CarriedPlans.{Carries, given, nothing}
 use Rattle.node_rules.specs.Drafts.{alone, choose, counters_left, empty_draft, goes, refused, sealed, sealing}
 use Rattle.node_rules.specs.Memory.{StationMemory, address_of, station_route}
 use Rattle.node_rules.specs.Neighbours.{CarriesAfter, followed, local_draft, local_ends, send_local}
 use Rattle.node_rules.specs.Plans.{Plan, resting, within}
 use Rattle.node_rules.specs.States.{State}
-use Rattle.plc_station.proofs.Carrying.{at_some, resting_carried}
+use Rattle.plc_station.proofs.CarriedPlans.{at_some, resting_carried}
 use Rattle.reach_rules.specs.declared.heard.CommandHeard.{CommandHeard}
 use Rattle.reach_rules.specs.declared.heard.CommandHeard.TheVariants as commands
 use Rattle.reach_rules.specs.declared.refusal.AskRefusal.{AskRefusal}
@@ -32,15 +32,15 @@ use Rattle.reach_rules.specs.declared.refusal.ReachDropped.{ReachDropped}
 use Rattle.reach_rules.specs.declared.refusal.ReachDropped.TheVariants.{Known, NotAwaited}
 use Rattle.reach_rules.specs.Broadcasts.{hear_broadcast}
 use Rattle.reach_rules.specs.CheckedReplies.{hear_acknowledgement, hear_acknowledgement_in}
-use Rattle.reach_rules.specs.PathAsking.{ask_ends, ask_path, follows_path, hear_path, hear_path_in, next_toward, send_path}
+use Rattle.reach_rules.specs.PathRequests.{ask_ends, ask_path, follows_path, hear_path, hear_path_in, next_toward, send_path}
 use Rattle.reach_rules.specs.ReachingNodes.{Beside, Reaching, drop_it, reach_ends, remembers, with_checks}
-use Rattle.reach_rules.specs.Receiving.{NeighbourCommand, hear_command, hear_command_at}
+use Rattle.reach_rules.specs.FurtherReceptions.{NeighbourCommand, hear_command, hear_command_at}
 use Rattle.line_rules.specs.Answers.{reach_drop_word}
 use Rattle.line_rules.specs.Further.{without_log}
 use Rattle.line_world.specs.declared.nodes.command.Commanded.{Commanded}
 use Rattle.line_world.specs.declared.nodes.station_further.PathHeard.{PathHeard}
-use Rattle.line_world.specs.Reaching.{EndsCheck, Reaches, ReachesCommand, ReachesFirst, ReportsCommand, answer_as, beside_left, check_ended, of_held}
-use Rattle.line_world.specs.Reaching.{path_heard, ended_by}
+use Rattle.line_world.specs.FurtherOutcomes.{EndsCheck, Reaches, ReachesCommand, ReachesFirst, ReportsCommand, answer_as, beside_left, check_ended, of_held}
+use Rattle.line_world.specs.FurtherOutcomes.{path_heard, ended_by}
 use Rattle.line_world.proofs.FurtherPlans.{asks_hop, before_stays, checks_alone, ends_awaited, ends_unawaited, none_stayed, own_of, sealed_answer, sent_after}
 use Rattle.line_world.proofs.FurtherPlans.{sent_first, some_is, local_answer}
 
@@ -79,7 +79,7 @@ ask_ended (Err locals.NotJoined) = refl
 ask_ended (Err locals.CounterSpent) = refl
 ask_ended (Err locals.Store) = refl
 
--- nothing but a word is told of a command that is dropped
+-- nothing but a word is reported of a command that is dropped
 pub only_dropped : (reported : Commanded) (number : ℕ) (reason : ReachDropped) → reported ≡ record { answer = reach_drop_word reason; bup = None; path = None }
     → ReportsCommand reported number (Err reason)
 only_dropped reported number reason is =
@@ -140,7 +140,7 @@ remembers_after {A} s b c halted plan l answer failed before running is = record
       (subst (λ (o : Option StationMemory). c ≡ beside_left b plan l o) (sym running) (sym (ap (λ (p : Plan (Reaching StationMemory) A). p.memory.beside) is)));
 }
 
--- a command is dropped, and this is told of it
+-- a command is dropped, and this is reported of it
 pub dropped_after : (s : State StationMemory) (b : Beside) (plan : Reaching StationMemory → Plan (Reaching StationMemory) (Result CommandHeard ReachDropped))
     (l : StationMemory) (reason : ReachDropped)
     (reported : Commanded) (number : ℕ) (before : Out) → s.memory ≡ Some l

@@ -7,7 +7,7 @@ use Rattle.std.specs.List.{list_any, position_or_len}
 use Rattle.std.proofs.lemmas.Bool.{le-ltb, lt-ltb, ltb-false, ltb-true}
 use Rattle.std.proofs.lemmas.List.{map-set, length-map}
 use Rattle.std.proofs.lemmas.Option.{slice_get-map, slice_get_read}
-use Rattle.routing_set.proofs.Endings.{map_length, map_step, map_whole}
+use Rattle.routing_set.proofs.RouteEnds.{map_length, map_step, map_whole}
 use Rattle.node_rules.specs.Memory.{StationMemory, Memory, Node, address_of, node_address}
 use Rattle.meter_node.specs.MeterStates.{MeterState, memory_with}
 use Rattle.line_world.specs.Nodes.{of_meter}

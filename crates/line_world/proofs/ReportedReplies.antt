@@ -1,12 +1,12 @@
--- The reply that a node tells, where it heard a route message, is the one among the frames of its step.
+-- The reply that a node reports, where it heard a route message, is the one among the frames of its step.
 use Rattle.std.proofs.Common.{◌≡◌, ℕ, Bool, true, false, List, Option, Some, None, Result, Ok, Err, refl, sym, ap, subst, ◌∙◌, arith}
 use Rattle.std.specs.Prelude.{◌==◌, IsSome, if◌then◌else◌}
 use Rattle.std.specs.Option.{option_and_then, option_map, option_map_or}
 use Rattle.std.proofs.lemmas.Bool.{eqb-true, ne_eqb}
 use Rattle.mesh_header.specs.declared.unit.Unit.{Unit as MeshUnit}
 use Rattle.mesh_header.specs.declared.unit.Unit.TheVariants as units
-use Rattle.mesh_header.specs.Reading.{unit_in}
-use Rattle.loadng_messages.specs.Reading.{message_in}
+use Rattle.mesh_header.specs.Reader.{unit_in}
+use Rattle.loadng_messages.specs.Reader.{message_in}
 use Rattle.node_rules.specs.Accepted.{Accepted}
 use Rattle.node_rules.specs.declared.heard.Heard.{Heard}
 use Rattle.node_rules.specs.declared.heard.Heard.TheVariants as heard
@@ -16,7 +16,7 @@ use Rattle.node_rules.specs.declared.heard.Reply.{Reply}
 use Rattle.node_rules.specs.declared.refusal.Dropped.{Dropped}
 use Rattle.node_rules.specs.declared.refusal.Dropped.TheVariants.{BadUnit, Store}
 use Rattle.node_rules.specs.Drafts.{choose}
-use Rattle.node_rules.specs.Hearing.{Hearing, drop_it, hear, hear_command, hear_message_in, hear_plain, hear_unit_in}
+use Rattle.node_rules.specs.HearingRules.{Hearing, drop_it, hear, hear_command, hear_message_in, hear_plain, hear_unit_in}
 use Rattle.node_rules.specs.Memory.{StationMemory, Memory, Node, address_of}
 use Rattle.node_rules.specs.MemoryDrafts.{unread}
 use Rattle.node_rules.specs.NodeSteps.{acts, left_by, stays}

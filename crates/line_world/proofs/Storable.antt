@@ -10,7 +10,7 @@ use Rattle.coordinator.specs.CoordinatorStates.{CoordinatorState}
 use Rattle.coordinator.specs.CoordinatorStates as coordinators
 use Rattle.line_world.specs.Nodes.{node_in, nodes_in, of_coordinator, of_meter}
 use Rattle.line_world.specs.Soundness.{AreSound, NodeAgreesWith, IsBelow, IsShort, IsSound, IsSoundMeter}
-use Rattle.line_world.proofs.Acting.{short_tables}
+use Rattle.line_world.proofs.NodeActs.{short_tables}
 
 pub is_short : (role : Role) (s : State Memory) → IsSound role s → IsShort (node_in role s)
 is_short role s sound = by s.memory sound.agrees

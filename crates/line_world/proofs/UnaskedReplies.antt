@@ -4,7 +4,7 @@ use Rattle.std.specs.Prelude.{◌==◌, if◌then◌else◌, is_some}
 use Rattle.std.specs.Option.{option_and_then, option_map, option_map_or}
 use Rattle.plc_base.specs.declared.address.Eui.{Eui}
 use Rattle.plc_base.specs.declared.key.Key.{Key}
-use Rattle.plc_base.specs.declared.key.Rand.{Rand}
+use Rattle.plc_base.specs.declared.key.RandomOctets.{RandomOctets}
 use Rattle.plc_base.specs.declared.tags.PairTag.{PairTag}
 use Rattle.plc_base.specs.Fields.{octet}
 use Rattle.plc_base.specs.Grant.{Granted}
@@ -12,18 +12,18 @@ use Rattle.store_tables.specs.Writes.{Written, write}
 use Rattle.fragment_buffers.specs.Loads.{Command, UnsealedUnit}
 use Rattle.mesh_header.specs.declared.unit.Unit.{Unit as MeshUnit}
 use Rattle.mesh_header.specs.declared.unit.Unit.TheVariants as units
-use Rattle.mesh_header.specs.Reading.{unit_in}
+use Rattle.mesh_header.specs.Reader.{unit_in}
 use Rattle.loadng_messages.specs.declared.message.Message.{Message}
 use Rattle.loadng_messages.specs.declared.message.Message.TheVariants.{Rreq}
 use Rattle.loadng_messages.specs.Faults.{message_fault}
 use Rattle.loadng_messages.specs.Grammar as messages
-use Rattle.loadng_messages.specs.Reading.{fields_in, message_in}
+use Rattle.loadng_messages.specs.Reader.{fields_in, message_in}
 use Rattle.group_keys.specs.declared.key_book.BookEntry.{BookEntry}
 use Rattle.group_keys.specs.KeyRing as ring
 use Rattle.joining_messages.specs.declared.message.JoinMessage.{JoinMessage}
 use Rattle.joining_messages.specs.declared.message.JoinBody.{JoinBody}
 use Rattle.joining_messages.specs.declared.message.JoinBody.TheVariants as body
-use Rattle.joining_messages.specs.Reading.{join_in}
+use Rattle.joining_messages.specs.Reader.{join_in}
 use Rattle.eap_psk.specs.Faults.{first_fault}
 use Rattle.eap_psk.specs.declared.peer.Peer.{Peer}
 use Rattle.eap_psk.specs.declared.server.Server.{Server}
@@ -44,9 +44,9 @@ use Rattle.node_rules.specs.Coordinators as coordinators
 use Rattle.node_rules.specs.Drafts.{Draft, StationPlace, Ends, body_goes, checked, choose, empty_draft, goes, is_awaited, sealed_units, seeks, seeks_once}
 use Rattle.node_rules.specs.Drafts.{sealed_by, sealing_key, sets_out, waits, with_own_number, with_ring}
 use Rattle.node_rules.specs.Frames.{Sent, Up, Down, to_all}
-use Rattle.node_rules.specs.Hearing as stations
-use Rattle.node_rules.specs.Hearing.{dropped}
-use Rattle.node_rules.specs.Joining.{command_of, message, server_for}
+use Rattle.node_rules.specs.HearingRules as stations
+use Rattle.node_rules.specs.HearingRules.{dropped}
+use Rattle.node_rules.specs.JoiningPackets.{command_of, message, server_for}
 use Rattle.node_rules.specs.Memory.{ByAgent, ByCommand, Coordinator, CoordinatorSession, SessionWay, Memory, Meter, MeterSession, Node, Role, StationMemory}
 use Rattle.node_rules.specs.Memory.{address_of, next_hop}
 use Rattle.node_rules.specs.MemoryDrafts.{Unread, goes_down, goes_up, in_memory, is_commanded, oldest, on_station, packet_fault, station_part, unread}
@@ -56,7 +56,7 @@ use Rattle.node_rules.specs.NodeSteps.{NodeStep, acts, answering, left_by, stays
 use Rattle.node_rules.specs.Plans.{Plan, carry_out, finished, halted as cut_off, resting}
 use Rattle.node_rules.specs.Replies.{first_of, reply_among, reply_of, reply_with, route_message}
 use Rattle.node_rules.proofs.Shapes.{Ended, Keeps, Rests, Shape, checked_shape, choose_shape, option_shape, rests_shape, sealed_shape, sealing_shape}
-use Rattle.plc_station.proofs.Replying.{over_mesh_quiet}
+use Rattle.plc_station.proofs.SentReplies.{over_mesh_quiet}
 use Rattle.reach_rules.specs.CheckedReplies.{message_of}
 use Rattle.line_rules.specs.Answers.{Reception, coordinator_reception, meter_reception}
 use Rattle.line_rules.specs.Steps.{hearing_step, identity}
@@ -339,7 +339,7 @@ module _ (own : coordinators.CoordinatorIdentity) (m : Memory) where
   asked_quiet : (way : Way) (eui : Eui) (now : ℕ) → OfCoordinator (coordinators.join_without_packet own m way eui now)
   asked_quiet way eui now = chosen m _ _ _ (open_quiet way eui now) (declines_quiet way _ now)
 
-  keys_quiet : (s : CoordinatorSession) (e : BookEntry) (rand_p : Rand) (granted : Granted) (now : ℕ)
+  keys_quiet : (s : CoordinatorSession) (e : BookEntry) (rand_p : RandomOctets) (granted : Granted) (now : ℕ)
       → OfCoordinator (coordinators.keys_for own m s e rand_p granted now)
   keys_quiet s e rand_p granted now = by_way s.way refl
     where
@@ -354,7 +354,7 @@ module _ (own : coordinators.CoordinatorIdentity) (m : Memory) where
       (coordinators.drop_it m drops.NotAllowed)
       (λ granted. keys_quiet s e _ granted now) (Rests _))
 
-  fourth_quiet : (s : CoordinatorSession) (e : BookEntry) (packet : List ℕ) (rand_p : Rand) (now : ℕ)
+  fourth_quiet : (s : CoordinatorSession) (e : BookEntry) (packet : List ℕ) (rand_p : RandomOctets) (now : ℕ)
       → OfCoordinator (coordinators.take_fourth own m s e packet rand_p now)
   fourth_quiet s e packet rand_p now = passed m _ _ (by_way s.way refl)
     where

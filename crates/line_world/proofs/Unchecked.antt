@@ -6,13 +6,13 @@ use Rattle.std.proofs.lemmas.List.Elements.{All-get_or, All-head, All-push, All-
 use Rattle.std.proofs.lemmas.Option.{get_or_from_slice_get, slice_get_within}
 use Rattle.plc_base.specs.declared.address.Eui.{Eui}
 use Rattle.plc_base.specs.declared.key.Key.{Key}
-use Rattle.plc_base.specs.declared.key.Rand.{Rand}
+use Rattle.plc_base.specs.declared.key.RandomOctets.{RandomOctets}
 use Rattle.plc_base.specs.declared.keeper.BadStore.{BadStore}
 use Rattle.plc_base.specs.Grant.{Granted}
 use Rattle.broadcast_log.specs.declared.broadcast.Broadcast.{Broadcast}
 use Rattle.broadcast_log.specs.Grammar.{spelling}
 use Rattle.broadcast_log.specs.Log as logs
-use Rattle.broadcast_log.specs.Reading.{broadcast_in}
+use Rattle.broadcast_log.specs.Reader.{broadcast_in}
 use Rattle.neighbour_checks.specs.Acks.{ack_in}
 use Rattle.neighbour_checks.specs.Neighbours.{Neighbours, acked_after, is_awaited, nobody, tick_after}
 use Rattle.path_requests.specs.declared.message.PathMessage.{PathMessage}
@@ -21,8 +21,8 @@ use Rattle.path_requests.specs.declared.step.PathStep.{PathStep}
 use Rattle.path_requests.specs.declared.step.PathStep.TheVariants.{Forward, Answer, Done}
 use Rattle.path_requests.specs.declared.step.PathRefusal.{PathRefusal}
 use Rattle.path_requests.specs.Messages.{path_spelling}
-use Rattle.path_requests.specs.Reading.{path_in}
-use Rattle.path_requests.specs.Taking.{taken}
+use Rattle.path_requests.specs.Reader.{path_in}
+use Rattle.path_requests.specs.PathSteps.{taken}
 use Rattle.node_rules.specs.Accepted.{Accepted}
 use Rattle.node_rules.specs.declared.heard.Reply.{Reply}
 use Rattle.node_rules.specs.declared.refusal.CoordinatorRefusal.{CoordinatorRefusal}
@@ -51,10 +51,10 @@ use Rattle.reach_rules.specs.Beacons.{ChosenAgent, choose_agent, choosing_ends, 
 use Rattle.reach_rules.specs.Broadcasts.{admits_broadcast, broadcast, broadcast_ends, broadcast_fault, broadcast_from, datagram_fault, goes_further}
 use Rattle.reach_rules.specs.Broadcasts.{hear_broadcast, hear_broadcast_in, hop_less, own_broadcast, with_broadcast_mark, with_broadcast_number}
 use Rattle.reach_rules.specs.CheckedReplies.{hear_acknowledgement, hear_acknowledgement_in, message_of}
-use Rattle.reach_rules.specs.PathAsking.{ask_ends, ask_path, asks_by as asks_hop, asks_from, follows_path, hear_path, hear_path_in, next_toward, path_word}
+use Rattle.reach_rules.specs.PathRequests.{ask_ends, ask_path, asks_by as asks_hop, asks_from, follows_path, hear_path, hear_path_in, next_toward, path_word}
 use Rattle.reach_rules.specs.ReachingNodes.{Beside, Reaching, drop_it, in_reach, nothing_beside, reach_ends, remembers, restarted, restarted_by}
 use Rattle.reach_rules.specs.ReachingNodes.{adds_local, tick_beside, with_checks}
-use Rattle.reach_rules.specs.Receiving.{NeighbourCommand, command_of, hear_command, hear_command_at}
+use Rattle.reach_rules.specs.FurtherReceptions.{NeighbourCommand, command_of, hear_command, hear_command_at}
 use Rattle.pan_discovery.specs.Agents.{kth_of}
 use Rattle.line_events.specs.declared.event.Event.{Event}
 use Rattle.line_events.specs.declared.event.Event.TheVariants as events
@@ -366,7 +366,7 @@ module _ (ciphers : Ciphers) (w : World) (h : NoneChecked w) where
       by_option (λ psk. Ok (allowed ciphers w number (acts c (Err orders.Halted) (λ m. coordinator_rules.allow m x.eui psk)))) (psk_of x) _
       (λ psk. acts_in 0 _) tt)))
 
-  rand_in : (number : ℕ) (value : Rand) → Kept (rand ciphers w number value)
+  rand_in : (number : ℕ) (value : RandomOctets) → Kept (rand ciphers w number value)
   unfolding rand
   rand_in number value = once _ (at_node number _ (λ x. acts_in number _))
 
@@ -572,7 +572,7 @@ module _ (ciphers : Ciphers) (w : World) (h : NoneChecked w) where
   line_in (events.Counter node value) = preset_in node _
   line_in (events.Number node value) = preset_in node _
   line_in (events.Allow node) = allow_in node
-  line_in (events.Rand node value) = rand_in node value
+  line_in (events.RandomOctets node value) = rand_in node value
   line_in (events.Join node agent) = join_in node agent
   line_in (events.Leave node) = leave_in node
   line_in (events.Send from to datagram) = send_in from to datagram

@@ -17,11 +17,11 @@ use Rattle.node_rules.specs.NodeSteps.{NodeStep, stays}
 use Rattle.line_flights.specs.declared.flights.Origin.{Origin}
 use Rattle.line_world.specs.declared.nodes.reception.HandedUp.{HandedUp}
 use Rattle.line_world.specs.declared.nodes.reception.Reception as receiving
-use Rattle.line_world.specs.Reaching.{given_after}
+use Rattle.line_world.specs.FurtherOutcomes.{given_after}
 use Rattle.line_events.specs.declared.happenings.Handed.{Handed}
 use Rattle.line_events.specs.declared.happenings.Happenings.{Happenings}
 use Rattle.reach_rules.specs.CheckedReplies.{checks_after}
-use Rattle.reach_rules.specs.Receiving.{NeighbourCommand, command_of}
+use Rattle.reach_rules.specs.FurtherReceptions.{NeighbourCommand, command_of}
 use Rattle.line_events.specs.declared.event.Event.{Event}
 use Rattle.line_events.specs.declared.event.Event.TheVariants as events
 use Rattle.line_events.specs.declared.event.Answer.TheVariants as answers

@@ -2,13 +2,13 @@ pub mod NodeCodes
 pub mod Nodes
 pub mod Soundness
 pub mod NodeOutcomes
-pub mod Receiving
+pub mod Receptions
 pub mod Lines
 pub mod Steps
 pub mod Bounds
 pub mod WorldCodes
 pub mod Arrivals
-pub mod Finding
-pub mod Reaching
-pub mod Discovering
+pub mod NamedNodes
+pub mod FurtherOutcomes
+pub mod Discovery
 pub mod Ready

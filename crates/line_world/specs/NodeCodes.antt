@@ -5,7 +5,7 @@ use Rattle.std.specs.Coded.{Coded, code_by, coded×, coded_ℕ, coded_bool, code
 use Rattle.plc_base.specs.declared.address.Eui.{Eui}
 use Rattle.plc_base.specs.declared.keeper.Cut.{Cut}
 use Rattle.plc_base.specs.declared.key.Key.{Key}
-use Rattle.plc_base.specs.declared.key.Rand.{Rand}
+use Rattle.plc_base.specs.declared.key.RandomOctets.{RandomOctets}
 use Rattle.plc_base.specs.Keeper.{Records}
 use Rattle.group_keys.specs.KeyBook.{Book, book_code}
 use Rattle.node_rules.specs.Memory.{StationMemory, MeterSession, CoordinatorSession, Memory, Role, Coordinator, Meter, Stored, Node}
@@ -43,7 +43,7 @@ stored_code =
 
 abbrev pub memory_code : Coded Memory
 memory_code =
-    code_by (StationMemory × (List Rand × (Option MeterSession × (List CoordinatorSession × Book))))
+    code_by (StationMemory × (List RandomOctets × (Option MeterSession × (List CoordinatorSession × Book))))
     (coded× station_code (coded× (coded_list meter_sessions.rand_code)
     (coded× (coded_option meter_sessions.session_code)
     (coded× (coded_list coordinator_sessions.session_code) book_code))))

@@ -2,7 +2,7 @@
 use Rattle.std.specs.Prelude.{Bool, List, [], ◌∷◌, map, Option, Some, None}
 use Rattle.plc_base.specs.declared.address.Eui.{Eui}
 use Rattle.plc_base.specs.declared.keeper.Cut.{Cut}
-use Rattle.node_rules.specs.Accepting.{same_eui}
+use Rattle.node_rules.specs.Acceptance.{same_eui}
 use Rattle.plc_base.specs.Keeper.{Store}
 use Rattle.node_rules.specs.Memory.{Memory, Role, Coordinator, Meter, Stored, Node}
 use Rattle.node_rules.specs.States.{State}

@@ -7,7 +7,7 @@ use Rattle.line_world.specs.declared.line.Line.{Line}
 use Rattle.line_world.specs.Arrivals.{in_run}
 use Rattle.line_world.specs.Bounds.{IsBounded}
 use Rattle.line_world.specs.Lines.{HasRoom, world_of}
-use Rattle.line_world.specs.Receiving.{MayHear}
+use Rattle.line_world.specs.Receptions.{MayHear}
 
 -- The node of this number may hear a frame, and there is room for what comes of it.
 pub record ReadyToHear (l : Line) (node : ℕ) (got : Accepted) : Type 0 where

@@ -4,7 +4,7 @@ use mathlib.Core.Logic.{inl, inr}
 use Rattle.std.specs.Coded.{Coded, code_by, coded×, coded⊎, coded_ℕ, coded_bool, coded_list, coded_option}
 use Rattle.plc_base.specs.declared.address.Eui.{Eui}
 use Rattle.plc_base.specs.declared.key.Key.{Key}
-use Rattle.plc_base.specs.declared.key.Rand.{Rand}
+use Rattle.plc_base.specs.declared.key.RandomOctets.{RandomOctets}
 use Rattle.plc_base.specs.declared.tags.PairTag.{PairTag}
 use Rattle.plc_base.specs.declared.tags.PairTag.TheVariants as tags
 use Rattle.neighbour_checks.specs.declared.tables.OpenCheck.{OpenCheck}
@@ -29,7 +29,7 @@ flight_code =
 
 -- a tag as the kind that it is, and what it was computed over
 abbrev pub TagParts : Type 0
-TagParts = (Eui × List ℕ) ⊎ ((Eui × List ℕ) ⊎ (Eui × (Rand × (ℕ × (List ℕ × List ℕ)))))
+TagParts = (Eui × List ℕ) ⊎ ((Eui × List ℕ) ⊎ (Eui × (RandomOctets × (ℕ × (List ℕ × List ℕ)))))
 
 abbrev pub tag_parts : PairTag → TagParts
 tag_parts (tags.MacP eui text) = inl (eui, text)

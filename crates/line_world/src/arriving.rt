@@ -10,7 +10,7 @@ ghost use Rattle.line_rules.specs.Steps as rules;
 ghost use Rattle.line_rules.specs.Further as further;
 ghost use Rattle.line_rules.specs.Logs.{LogsKept};
 ghost use Rattle.line_rules.specs.Worlds.{is_forged_tag};
-ghost use Rattle.line_world.specs.Receiving.{MayHear};
+ghost use Rattle.line_world.specs.Receptions.{MayHear};
 ghost use Rattle.line_world.specs.Arrivals.{outcome_of_arrival, done_in, forged_in, handed_in, outcome_of_hearing, in_run, left_of, note_in};
 ghost use Rattle.line_world.specs.Arrivals.{reception_happenings, taker_in, BringsOctets};
 ghost use Rattle.line_world.specs.Bounds.{IsBounded};
@@ -120,7 +120,7 @@ impl Line {
         ensures { result ≡ done_in (world_of self.now) done }
     {
         let eui = done?;
-        let number = self.nodes.position(eui).unwrap_or(0);
+        let number = self.nodes.number_of_eui(eui).unwrap_or(0);
         Some(number as u16)
     }
 

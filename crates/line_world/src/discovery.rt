@@ -1,6 +1,6 @@
 //! Frames of discovery, and meters that scan and choose an agent.
 ghost use Rattle.std.specs.Prelude.{◌≡◌, ◌<◌, ◌≤◌, ◌∷◌, [], ℕ, true, length, Ok, Some, None, IfSome, IsSome, slice_get};
-ghost use Rattle.node_rules.specs.Carrying.{nothing};
+ghost use Rattle.node_rules.specs.CarriedPlans.{nothing};
 ghost use Rattle.node_rules.specs.Ciphers.{network};
 ghost use Rattle.pan_discovery.specs.Messages.{discovery_spelling};
 ghost use Rattle.reach_rules.specs.Beacons as beacons;
@@ -9,7 +9,7 @@ ghost use Rattle.line_rules.specs.Answers as words;
 ghost use Rattle.line_rules.specs.Further as further;
 ghost use Rattle.line_rules.specs.Steps as rules;
 ghost use Rattle.line_world.specs.Bounds.{IsBounded};
-ghost use Rattle.line_world.specs.Discovering.{HearsBeacon, TakesBeacon, discovered_in, discovers_in, flies_in, joins_in};
+ghost use Rattle.line_world.specs.Discovery.{HearsBeacon, TakesBeacon, discovered_in, discovers_in, flies_in, joins_in};
 ghost use Rattle.line_world.specs.Lines.{HasRoom, world_of};
 ghost use Rattle.line_world.specs.Steps.{Steps};
 

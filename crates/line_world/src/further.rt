@@ -2,12 +2,12 @@
 ghost use Rattle.std.specs.Prelude.{◌≡◌, ◌==◌, ◌<◌, true, false, length, Ok, None, Some, IfSome, IsSome, is_some, slice_get, if◌then◌else◌};
 ghost use Rattle.std.specs.Option.{option_and_then, option_map};
 ghost use Rattle.loadng_messages.specs.Grammar as messages;
-ghost use Rattle.loadng_messages.specs.Reading as reading;
-ghost use Rattle.mesh_header.specs.Reading as units;
+ghost use Rattle.loadng_messages.specs.Reader as reader;
+ghost use Rattle.mesh_header.specs.Reader as units;
 ghost use Rattle.node_rules.specs.Ciphers.{network};
 ghost use Rattle.node_rules.specs.Replies.{route_message};
 ghost use Rattle.reach_rules.specs.CheckedReplies as replies;
-ghost use Rattle.reach_rules.specs.Receiving.{command_of as further_command, command_on};
+ghost use Rattle.reach_rules.specs.FurtherReceptions.{command_of as further_command, command_on};
 ghost use Rattle.line_events.specs.declared.event.TheConstants.{MAX_EVENTS};
 ghost use Rattle.line_rules.specs.Answers as words;
 ghost use Rattle.line_rules.specs.Further as further;
@@ -15,7 +15,7 @@ ghost use Rattle.line_rules.specs.Logs.{LogsKept};
 ghost use Rattle.line_world.specs.Arrivals.{Acknowledges, outcome_of_further, outcome_of_command, in_run, is_stored, outcome_of_unbelieved, with_check_of};
 ghost use Rattle.line_world.specs.Bounds.{IsBounded};
 ghost use Rattle.line_world.specs.Lines.{HasRoom, world_of};
-ghost use Rattle.line_world.specs.Reaching as reaching;
+ghost use Rattle.line_world.specs.FurtherOutcomes as further_outcomes;
 ghost use Rattle.line_world.specs.Ready.{ReadyToHear};
 ghost use Rattle.line_world.specs.Steps.{Steps, has_address};
 ghost use Rattle.plc_base.specs.declared.limits.TheConstants.{MOST_FRAMES};
@@ -72,14 +72,14 @@ fn unit_of<'a>(got: &Accepted<'a>) -> Option<Unit<'a>>
 
 // The command that an accepted frame carries, if it carries one.
 fn command_in<'a>(got: &Accepted<'a>, unit: &Option<Unit<'a>>) -> Option<CommandRef<'a>>
-    ensures { option_map reaching.command_of result ≡ command_on got.now.path unit.now }
+    ensures { option_map further_outcomes.command_of result ≡ command_on got.now.path unit.now }
 {
     command_on(&got.path(), unit)
 }
 
 // The message that the body of a command 01 is, if it is one.
 fn message_in(code: u8, body: &[u8]) -> Option<Message>
-    ensures value { result ≡ (if code == 1 then reading.message_in body.now else None) }
+    ensures value { result ≡ (if code == 1 then reader.message_in body.now else None) }
     ensures allowed { IfSome result (λ m. messages.IsAllowed m) }
 {
     if code != 1 {
@@ -293,9 +293,9 @@ impl Line {
         datagram: &'a mut DatagramBuf,
     ) -> Happenings<'a>
         requires ready { ReadyToHear self.old node got }
-        requires command { further_command got ≡ Some (reaching.command_of command.now) }
+        requires command { further_command got ≡ Some (further_outcomes.command_of command.now) }
         ensures { IfSome (slice_get self.old.nodes node) (λ x. Steps true (world_of self.old) (Ok result) (world_of self.new)
-            (Ok (outcome_of_command network (world_of self.old) node x got.entry origin cost (Some (reaching.command_of command.now))))) }
+            (Ok (outcome_of_command network (world_of self.old) node x got.entry origin cost (Some (further_outcomes.command_of command.now))))) }
     {
         let reported = self.nodes.hear(
             node,
@@ -334,7 +334,7 @@ impl Line {
         };
         self.beside[node]
             .checks
-            .sent(reply.to, reply.number, reply.origin, self.clock);
+            .reply_sent(reply.to, reply.number, reply.origin, self.clock);
     }
 
     // An acknowledgement goes out, if one is due. Whether no write failed by it.

@@ -3,7 +3,7 @@ ghost use Rattle.std.specs.Prelude.{◌≡◌, ◌+◌, ◌++◌, ◌<◌, ◌�
 ghost use Rattle.line_events.specs.declared.event.TheConstants.{MAX_EVENTS};
 ghost use Rattle.line_events.specs.declared.event.StepFault.TheVariants as faults;
 ghost use Rattle.line_rules.specs.Steps as rules;
-ghost use Rattle.line_world.specs.Finding.{found, found_meter};
+ghost use Rattle.line_world.specs.NamedNodes.{found, found_meter};
 ghost use Rattle.line_world.specs.Lines.{HasRoom, world_of};
 ghost use Rattle.plc_base.specs.declared.limits.TheConstants.{MOST_FRAMES};
 

@@ -11,7 +11,7 @@ ghost use Rattle.line_world.specs.Steps.{Steps, has_address};
 use crate::line::Line;
 use line_events::{Admission, Answer, Happenings, StepFault};
 use node_rules::{CoordinatorRefusal, JoinRefusal, LeaveRefusal, RandomFault};
-use plc_base::Rand;
+use plc_base::RandomOctets;
 
 /// The word of an order that was refused.
 pub(crate) fn order_word(reason: CoordinatorRefusal) -> Answer
@@ -88,7 +88,11 @@ impl Line {
     }
 
     /// Gives a node a random value.
-    pub(crate) fn rand(&mut self, node: u32, value: Rand) -> Result<Happenings<'static>, StepFault>
+    pub(crate) fn rand(
+        &mut self,
+        node: u32,
+        value: RandomOctets,
+    ) -> Result<Happenings<'static>, StepFault>
         requires bounds { IsBounded (world_of self.old) }
         requires events { self.old.events < MAX_EVENTS }
         ensures { Steps false (world_of self.old) result (world_of self.new)

@@ -19,7 +19,7 @@ use line_flights::{Flights, MadeTags};
 use plc_base::{FrameBuf, Out};
 use std::alloc::Global;
 
-/// A line has at most so many nodes.
+/// A line has at most this many nodes.
 pub(crate) const MAX_NODES: usize = 1000;
 
 /// The nodes of a line, and every frame that ever went out.
@@ -71,7 +71,7 @@ impl Line {
             Event::Counter { node, value } => self.counter(*node, *value),
             Event::Number { node, value } => self.number(*node, *value),
             Event::Allow { node } => self.allow(*node),
-            Event::Rand { node, value } => self.rand(*node, *value),
+            Event::RandomOctets { node, value } => self.rand(*node, *value),
             Event::Join { node, agent } => self.join(*node, *agent),
             Event::Leave { node } => self.leave(*node),
             Event::Send { from, to, datagram } => self.send(*from, *to, datagram.octets()),

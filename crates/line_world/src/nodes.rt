@@ -6,7 +6,7 @@
 ghost use Rattle.std.specs.Prelude.{◌≡◌, ◌≤◌, ◌<◌, [], length, nat_lt, not, position, IfSome, Some, slice_get};
 ghost use Rattle.std.specs.List.{list_any};
 ghost use Rattle.node_rules.specs.Memory as memory;
-ghost use Rattle.node_rules.specs.Accepting.{same_eui};
+ghost use Rattle.node_rules.specs.Acceptance.{same_eui};
 ghost use Rattle.line_rules.specs.Steps.{psk_of};
 ghost use Rattle.line_world.specs.Nodes.{has_eui};
 
@@ -137,7 +137,7 @@ impl Nodes {
     }
 
     /// The number of the first node with an EUI, None where no node has it.
-    pub fn position(&self, eui: Eui) -> Option<usize>
+    pub fn number_of_eui(&self, eui: Eui) -> Option<usize>
         ensures { result ≡ position (λ (x : memory.Node). same_eui x.eui eui) self.now }
     {
         let Some(coordinator) = &self.coordinator else {
@@ -154,6 +154,6 @@ impl Nodes {
     pub fn has(&self, eui: Eui) -> bool
         ensures { result ≡ list_any (λ (x : memory.Node). same_eui x.eui eui) self.now }
     {
-        self.position(eui).is_some()
+        self.number_of_eui(eui).is_some()
     }
 }

@@ -16,7 +16,7 @@ use line_events::{Answer, Happenings, StepFault};
 use node_rules::ShownRef;
 
 impl Line {
-    /// The clock goes on by so many seconds, for every node.
+    /// The clock goes on by this many seconds, for every node.
     pub(crate) fn tick(&mut self, seconds: u32) -> Result<Happenings<'static>, StepFault>
         requires bounds { IsBounded (world_of self.old) }
         requires checks { NoneChecked (world_of self.old) }

@@ -42,7 +42,7 @@ pub struct Buffers {
 
 impl Buffers {
     ghost use Rattle.std.specs.Prelude.{[]};
-    ghost use Rattle.node_rules.specs.Showing.{nothing_shown};
+    ghost use Rattle.node_rules.specs.ShownNodes.{nothing_shown};
 
     /// No octets, and what a halted node shows.
     pub fn new() -> Buffers
@@ -98,7 +98,7 @@ impl World {
     ghost use Rattle.std.specs.Prelude.{IfOk, IfSome, is_some};
     ghost use Rattle.std.specs.Option.{option_and_then, option_copied, option_map};
     ghost use Rattle.node_rules.specs.Ciphers.{network};
-    ghost use Rattle.node_rules.specs.Showing.{shown_of};
+    ghost use Rattle.node_rules.specs.ShownNodes.{shown_of};
     ghost use Rattle.line_rules.specs.Worlds.{start, flight_at, node_at};
     ghost use Rattle.line_rules.specs.Runs.{IsReached};
     ghost use Rattle.line_rules.specs.Further.{line_step};

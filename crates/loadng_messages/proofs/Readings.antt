@@ -17,7 +17,7 @@ use Rattle.loadng_messages.specs.declared.message.Message.{Message}
 use Rattle.loadng_messages.specs.declared.message.Message.TheVariants.{Rreq, Rrep, Rerr}
 use Rattle.loadng_messages.specs.Grammar.{IsMessage, IsNumber, Spells, spelling}
 use Rattle.loadng_messages.specs.Faults.{number_fault, long, route_fault, error_fault, kind_fault, message_fault}
-use Rattle.loadng_messages.specs.Reading.{fields_in, message_in}
+use Rattle.loadng_messages.specs.Reader.{fields_in, message_in}
 use Rattle.loadng_messages.specs.Laws.{MessagesAreRead, ReadMessagesAreSpelled}
 use Rattle.loadng_messages.proofs.Spellings.{no_fault}
 

@@ -6,7 +6,7 @@ ghost use Rattle.plc_base.specs.Fields.{Stands, octet, after};
 ghost use Rattle.plc_base.specs.Faults.{ReadsUnless, cut_off};
 ghost use Rattle.loadng_messages.specs.Grammar.{IsNumber, Spells};
 ghost use Rattle.loadng_messages.specs.declared.message.Message.{Message};
-ghost use Rattle.loadng_messages.specs.Reading.{message_in};
+ghost use Rattle.loadng_messages.specs.Reader.{message_in};
 ghost use Rattle.loadng_messages.specs.Faults.{number_fault, long, message_fault};
 
 use crate::fault::{MessageFault, MessageFaultKind};

@@ -11,8 +11,8 @@ use Rattle.aes_modes.proofs.CipherOctets.{ccm_octets, ccm_tag_octets}
 use Rattle.mac_frames.specs.declared.head.MacHead.{MacHead}
 use Rattle.mac_frames.specs.declared.head.MacHead.TheVariants.{Sealed, Up, Down}
 use Rattle.mac_frames.specs.Grammar.{low_control, high_control, header}
-use Rattle.mac_frames.specs.Reading.{body_in}
-use Rattle.mac_frames.specs.Sealing.{nonce_of, sealed_text, sealed_tag, payload_in}
+use Rattle.mac_frames.specs.Reader.{body_in}
+use Rattle.mac_frames.specs.SealedFrames.{nonce_of, sealed_text, sealed_tag, payload_in}
 use Rattle.mac_frames.specs.Laws.{HeadersAreOctets, SealedBodiesAreOctets, OpenedPayloadsAreOctets, BodiesAreOctets}
 
 abbrev IsOctet : ℕ → Type 0

@@ -1,4 +1,4 @@
--- A header has 15 octets, and stands in front of what follows it.
+-- A header has 15 octets, and stands before what follows it.
 use Rattle.std.proofs.Common.{◌≡◌, ℕ, List, [], ◌++◌, length, take, drop, reverse, refl, sym, ap, ◌∙◌, arith}
 use Rattle.std.proofs.Math.Seq.{take-append_seam, drop-append_seam}
 use Rattle.std.proofs.lemmas.List.{length-append, length-reverse, append_assoc, append-nil}

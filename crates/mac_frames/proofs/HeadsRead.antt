@@ -15,7 +15,7 @@ use Rattle.mac_frames.specs.declared.reading.RawFrame.{RawFrame}
 use Rattle.mac_frames.specs.declared.head.MacHead.TheVariants.{Sealed, Up, Down}
 use Rattle.mac_frames.specs.Faults.{bits, is_sealed, has_modes}
 use Rattle.mac_frames.specs.Grammar.{IsHead, Frame, header, header_then, low_control, high_control}
-use Rattle.mac_frames.specs.Reading.{ack_in, head_by, head_in, body_in}
+use Rattle.mac_frames.specs.Reader.{ack_in, head_by, head_in, body_in}
 use Rattle.mac_frames.specs.Laws.{FramesAreRead}
 use Rattle.mac_frames.proofs.Headers.{header_then-append, length-header}
 use Rattle.mac_frames.proofs.NoFault.{no_fault}

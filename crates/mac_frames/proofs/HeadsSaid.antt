@@ -14,7 +14,7 @@ use Rattle.mac_frames.specs.Faults.{is_sealed, has_modes, low_fault, high_fault,
 use Rattle.mac_frames.specs.Faults.{frame_fault}
 use Rattle.mac_frames.specs.Grammar.{low_control, high_control}
 use Rattle.mac_frames.specs.Laws.{SealedHeadsSayTheirNonces, PlainHeadsAreNotSealed, ReadNoncesAreInRange}
-use Rattle.mac_frames.specs.Reading.{head_by, head_in}
+use Rattle.mac_frames.specs.Reader.{head_by, head_in}
 use Rattle.mac_frames.proofs.HeadsRead.{low_sealed, low_plain}
 
 -- # What is spelled

@@ -2,7 +2,7 @@ pub mod Controls
 pub mod Headers
 pub mod NoFault
 pub mod Values
-pub mod Opening
+pub mod SealedBodies
 pub mod HeadsRead
 pub mod HeadsSaid
 pub mod FrameOctets

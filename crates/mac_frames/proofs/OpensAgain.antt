@@ -9,7 +9,7 @@ use Rattle.aes_modes.specs.Ccm.{ccm_text, ccm_tag}
 use Rattle.aes_modes.proofs.Texts.{ccm_text-twice, length-ccm_text, length-ccm_tag}
 use Rattle.mac_frames.specs.declared.head.MacHead.{MacHead}
 use Rattle.mac_frames.specs.Grammar.{header}
-use Rattle.mac_frames.specs.Sealing.{nonce_of, sealed_text, sealed_tag, payload_in, opened_in}
+use Rattle.mac_frames.specs.SealedFrames.{nonce_of, sealed_text, sealed_tag, payload_in, opened_in}
 use Rattle.mac_frames.specs.Sent.{sealed_body}
 use Rattle.mac_frames.specs.Laws.{SealedBodiesOpen, SealedBodiesAreLonger}
 

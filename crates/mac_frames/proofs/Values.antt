@@ -46,7 +46,7 @@ eui_eq : (a b : Eui) → a.0 ≡ b.0 → a ≡ b
 unfolding eui_of
 eui_eq a b e = ap eui_of e
 
--- two EUIs that stand least first, in front of what follows them
+-- two EUIs that stand least first, before what follows them
 euis_same : (a b : Eui) (x y : List ℕ) → IsEui a → IsEui b → reverse a.0 ++ x ≡ reverse b.0 ++ y → (a ≡ b) × (x ≡ y)
 euis_same a b x y ha hb e =
     let la : length (reverse a.0) ≡ 8 = omega (arith, length-reverse a.0, ha.0) in

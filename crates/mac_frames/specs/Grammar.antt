@@ -54,7 +54,7 @@ low_control sealed ack = 1 + (if sealed then 2 ^ 3 else 0) + (if ack then 2 ^ 5 
 abbrev pub high_control : ℕ → ℕ → ℕ → ℕ
 high_control target version sender = 2 ^ 2 * target + 2 ^ 4 * version + 2 ^ 6 * sender
 
--- The header of a head, in front of what follows it. Each kind has 15 octets.
+-- The header of a head, before what follows it. Each kind has 15 octets.
 abbrev pub header_then : MacHead → List ℕ → List ℕ
 header_then (Sealed ack seq pan to from counter index) rest =
     low_control true ack ∷ high_control 2 1 2 ∷ seq ∷ little_bytes 2 pan

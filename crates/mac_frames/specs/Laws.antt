@@ -5,8 +5,8 @@ use Rattle.mac_frames.specs.declared.head.MacHead.{MacHead}
 use Rattle.mac_frames.specs.declared.head.MacHead.TheVariants.{Sealed, Up, Down}
 use Rattle.mac_frames.specs.Faults.{is_sealed, frame_fault}
 use Rattle.mac_frames.specs.Grammar.{IsPlain, Frame, header, header_then}
-use Rattle.mac_frames.specs.Reading.{head_in, body_in}
-use Rattle.mac_frames.specs.Sealing.{opened_in}
+use Rattle.mac_frames.specs.Reader.{head_in, body_in}
+use Rattle.mac_frames.specs.SealedFrames.{opened_in}
 use Rattle.mac_frames.specs.Sent.{sealed_body}
 
 -- # Reading

@@ -1,7 +1,7 @@
 pub mod Grammar
 pub mod Faults
-pub mod Reading
-pub mod Sealing
+pub mod Reader
+pub mod SealedFrames
 pub mod Control
 pub mod Sent
 pub mod Laws

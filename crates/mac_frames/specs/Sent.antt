@@ -5,7 +5,7 @@ use Rattle.plc_base.specs.declared.address.TheConstants.{PAN}
 use Rattle.mac_frames.specs.declared.head.MacHead.{MacHead}
 use Rattle.mac_frames.specs.declared.head.MacHead.TheVariants.{Sealed}
 use Rattle.mac_frames.specs.Grammar.{header}
-use Rattle.mac_frames.specs.Sealing.{nonce_of}
+use Rattle.mac_frames.specs.SealedFrames.{nonce_of}
 
 -- the short address that all nodes hear
 abbrev pub to_all : ℕ

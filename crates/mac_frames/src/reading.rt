@@ -5,7 +5,7 @@ ghost use Rattle.byteorder.specs.Endian.{little_bytes};
 ghost use Rattle.plc_base.specs.Fields.{after};
 ghost use Rattle.plc_base.specs.Addresses.{IsAddress};
 ghost use Rattle.plc_base.specs.Faults.{ReadsUnless};
-ghost use Rattle.mac_frames.specs.Reading.{head_in, body_in};
+ghost use Rattle.mac_frames.specs.Reader.{head_in, body_in};
 ghost use Rattle.mac_frames.specs.Grammar.{Frame, IsBody, IsHead, IsTarget, header, header_then, high_control, low_control};
 ghost use Rattle.mac_frames.specs.Faults.{down_fault, fields_fault, frame_fault, index_fault, level_fault, sealed_fault, sender_fault, target_fault, up_fault};
 ghost use Rattle.mac_frames.specs.declared.head.MacHead.{MacHead};

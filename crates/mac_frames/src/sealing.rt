@@ -2,7 +2,7 @@
 ghost use Rattle.std.specs.Prelude.{◌≡◌, ◌≤◌, ◌↔◌, ◌++◌, ℕ, List, [], length, take, drop, IsOk, OnOk, OnErr, MatchResult, Some, None};
 ghost use Rattle.aes_modes.specs.Ccm.{ccm_tag, ccm_text};
 ghost use Rattle.mac_frames.specs.Grammar.{Frame, IsAllowed, IsHead, IsSealed, header};
-ghost use Rattle.mac_frames.specs.Sealing.{HasTag, SealedFrame, nonce, nonce_of, opened_in, payload_in};
+ghost use Rattle.mac_frames.specs.SealedFrames.{HasTag, SealedFrame, nonce, nonce_of, opened_in, payload_in};
 ghost use Rattle.plc_base.specs.declared.limits.TheConstants.{LONGEST_FRAME};
 
 use crate::head::MacHead;

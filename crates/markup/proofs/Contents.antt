@@ -1,9 +1,9 @@
 -- What is written opens nothing that it does not close.
 use Rattle.std.proofs.Common.{◌≡◌, ◌==◌, ℕ, Bool, true, false, List, [], ◌∷◌, ◌++◌, codes, refl, ap, ◌∙◌, if◌then◌else◌, nat_lt}
 use Rattle.markup.specs.Names.{element_word, attribute_word}
-use Rattle.markup.specs.Writing.{Given, escaped, escaped_octet, attribute_start, attribute_text, attributes_text, tag_start, end_tag}
-use Rattle.markup.specs.Nesting.{Mode, Opening, Naming, Quoted, Spaced, Place, at_mode, content, raw, inside, reached, stepped}
-use Rattle.markup.specs.Nesting.{is_leaf_word, IsContent, IsRaw}
+use Rattle.markup.specs.ElementTexts.{Given, escaped, escaped_octet, attribute_start, attribute_text, attributes_text, tag_start, end_tag}
+use Rattle.markup.specs.HtmlReader.{Mode, Opening, Naming, Quoted, Spaced, Place, at_mode, content, raw, inside, reached, stepped}
+use Rattle.markup.specs.HtmlReader.{is_leaf_word, IsContent, IsRaw}
 use Rattle.markup.specs.Laws.{TextsAreContent, LeavesAreContent, ElementsAreContent, RawElementsAreContent, ContentsJoin}
 use Rattle.markup.proofs.Words.{word_opens, word_closes, word_closes_raw, word_names, inside_content, inside_raw, leaf_words}
 

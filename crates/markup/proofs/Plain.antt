@@ -2,7 +2,7 @@
 use Rattle.std.proofs.Common.{◌≡◌, ℕ, Bool, true, false, List, [], ◌∷◌, ◌++◌, ◌&&◌, refl, ap, ◌∙◌}
 use Rattle.std.specs.Prelude.{◌==◌, nat_lt, codes, if◌then◌else◌}
 use Rattle.std.specs.List.{list_all}
-use Rattle.markup.specs.Writing.{escaped, escaped_octet, is_plain}
+use Rattle.markup.specs.ElementTexts.{escaped, escaped_octet, is_plain}
 
 by_tests : (a b d e f g h : Bool) (c : ℕ)
     → (if a then false else (if b then false else (if d then false else (if e then false else (if f then false

@@ -5,8 +5,8 @@ use Rattle.markup.specs.declared.names.Element.TheVariants as E
 use Rattle.markup.specs.declared.names.Attribute.{Attribute}
 use Rattle.markup.specs.declared.names.Attribute.TheVariants as A
 use Rattle.markup.specs.Names.{element_word, attribute_word, is_leaf, is_raw}
-use Rattle.markup.specs.Writing.{tag_start, end_tag}
-use Rattle.markup.specs.Nesting.{Content, Raw, Opening, Naming, Quoted, at_mode, content, raw, inside, reached, is_leaf_word}
+use Rattle.markup.specs.ElementTexts.{tag_start, end_tag}
+use Rattle.markup.specs.HtmlReader.{Content, Raw, Opening, Naming, Quoted, at_mode, content, raw, inside, reached, is_leaf_word}
 
 -- the name of a start tag
 pub word_opens : (element : Element) (os : List (List ℕ)) → reached (content os) (tag_start element) ≡ at_mode (Opening (element_word element)) os

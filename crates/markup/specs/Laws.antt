@@ -2,8 +2,8 @@
 use Rattle.std.specs.Prelude.{◌≡◌, ℕ, List, ◌++◌, true, false}
 use Rattle.markup.specs.declared.names.Element.{Element}
 use Rattle.markup.specs.Names.{is_leaf, is_raw}
-use Rattle.markup.specs.Writing.{Given, escaped, leaf_text, element_text}
-use Rattle.markup.specs.Nesting.{IsContent, IsRaw}
+use Rattle.markup.specs.ElementTexts.{Given, escaped, leaf_text, element_text}
+use Rattle.markup.specs.HtmlReader.{IsContent, IsRaw}
 
 -- a text opens nothing and closes nothing, whatever it holds
 abbrev pub TextsAreContent : Type 0

@@ -1,4 +1,4 @@
 pub mod Names
-pub mod Writing
-pub mod Nesting
+pub mod ElementTexts
+pub mod HtmlReader
 pub mod Laws

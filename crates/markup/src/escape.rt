@@ -2,12 +2,12 @@
 ghost use Rattle.std.specs.Prelude.{◌≡◌, ◌++◌, OnOk};
 ghost use Rattle.std.specs.Fmt.{decimal};
 ghost use Rattle.std.specs.List.{list_all};
-ghost use Rattle.markup.specs.Writing.{escaped, escaped_octet, is_plain};
+ghost use Rattle.markup.specs.ElementTexts.{escaped, escaped_octet, is_plain};
 
 use itoa::Buffer;
 use std::alloc::AllocError;
 
-#[tactic(auto, unfolding(crate::specs::Writing::escaped_octet))]
+#[tactic(auto, unfolding(crate::specs::ElementTexts::escaped_octet))]
 // Appends an octet of a text. What has a meaning in markup is named, and a control character becomes the sign for what can't be
 // shown.
 fn push_octet(out: &mut Vec<u8>, octet: u8) -> Result<(), AllocError>

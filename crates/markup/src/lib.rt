@@ -1,6 +1,6 @@
 //! HTML and SVG, written piece by piece: text and attributes with everything escaped, tags that close what they open.
 //!
-//! `specs/Writing.antt` says which octets each call appends, and `specs/Nesting.antt` follows octets through a page, octet by
+//! `specs/ElementTexts.antt` says which octets each call appends, and `specs/HtmlReader.antt` follows octets through a page, octet by
 //! octet. Whatever a text holds, it opens nothing and ends nothing.
 #![tactic(auto)]
 

@@ -1,6 +1,6 @@
 //! Tags.
 ghost use Rattle.std.specs.Prelude.{◌≡◌, ◌++◌, ◌∷◌, [], OnOk};
-ghost use Rattle.markup.specs.Writing.{attribute_start, attribute_text, end_tag, number_text, tag_start};
+ghost use Rattle.markup.specs.ElementTexts.{attribute_start, attribute_text, end_tag, number_text, tag_start};
 
 use crate::escape::{push_number, push_text};
 use crate::names::{Attribute, Element, attribute_word, element_word};
@@ -8,7 +8,7 @@ use std::alloc::AllocError;
 
 /// Begins the start tag of an element. Attributes may follow, and then [`close_tag`] or, of an element without content,
 /// [`end_leaf`].
-#[tactic(auto, unfolding(crate::specs::Writing::tag_start))]
+#[tactic(auto, unfolding(crate::specs::ElementTexts::tag_start))]
 pub fn open_tag(out: &mut Vec<u8>, element: Element) -> Result<(), AllocError>
     ensures { OnOk result (out.new.items ≡ out.old.items ++ tag_start element) }
 {
@@ -17,7 +17,7 @@ pub fn open_tag(out: &mut Vec<u8>, element: Element) -> Result<(), AllocError>
 }
 
 // Begins an attribute: all before its value.
-#[tactic(auto, unfolding(crate::specs::Writing::attribute_start))]
+#[tactic(auto, unfolding(crate::specs::ElementTexts::attribute_start))]
 fn start_attribute(out: &mut Vec<u8>, attribute: Attribute) -> Result<(), AllocError>
     ensures { OnOk result (out.new.items ≡ out.old.items ++ attribute_start attribute) }
 {
@@ -67,7 +67,7 @@ pub fn end_leaf(out: &mut Vec<u8>) -> Result<(), AllocError>
 }
 
 /// The end tag of an element.
-#[tactic(auto, unfolding(crate::specs::Writing::end_tag))]
+#[tactic(auto, unfolding(crate::specs::ElementTexts::end_tag))]
 pub fn close_element(out: &mut Vec<u8>, element: Element) -> Result<(), AllocError>
     ensures { OnOk result (out.new.items ≡ out.old.items ++ end_tag element) }
 {

@@ -2,8 +2,8 @@
 use Rattle.std.proofs.Common.{◌≡◌, ℕ, Bool, true, false, List, [], refl, if◌then◌else◌}
 use Rattle.markup.specs.declared.names.Element.{Element}
 use Rattle.markup.specs.Names.{is_leaf, is_raw}
-use Rattle.markup.specs.Writing.{Given, element_text, leaf_text}
-use Rattle.markup.specs.Nesting.{IsContent, reached}
+use Rattle.markup.specs.ElementTexts.{Given, element_text, leaf_text}
+use Rattle.markup.specs.HtmlReader.{IsContent, reached}
 use Rattle.markup.proofs.Contents.{contents_join, elements_are_content, leaves_are_content, texts_are_content}
 use Rattle.markup_parts.specs.Markups.{Nothing, Words, Leaf, Inside, Both, markup_text}
 use Rattle.markup_parts.specs.Laws.{MarkupsAreContent}

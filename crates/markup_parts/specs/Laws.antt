@@ -1,5 +1,5 @@
 -- What is put together nests.
-use Rattle.markup.specs.Nesting.{IsContent}
+use Rattle.markup.specs.HtmlReader.{IsContent}
 use Rattle.markup_parts.specs.Markups.{Markup, markup_text}
 
 -- markup closes all that it opens, and nothing else, whatever its texts hold

@@ -4,7 +4,7 @@ use Rattle.std.specs.Fmt.{decimal}
 use Rattle.markup.specs.declared.names.Element.{Element}
 use Rattle.markup.specs.declared.names.Attribute.{Attribute}
 use Rattle.markup.specs.Names.{is_leaf, is_raw}
-use Rattle.markup.specs.Writing.{Given, element_text, escaped, leaf_text}
+use Rattle.markup.specs.ElementTexts.{Given, element_text, escaped, leaf_text}
 
 pub data Markup : Type 0 where
   Nothing : Markup

@@ -1,7 +1,7 @@
 -- The octets of pieces of markup.
 use Rattle.std.specs.Prelude.{ℕ, List, [], ◌∷◌, ◌++◌}
 use Rattle.std.specs.Fmt.{decimal}
-use Rattle.markup.specs.Writing.{attribute_text, end_tag, escaped, tag_start}
+use Rattle.markup.specs.ElementTexts.{attribute_text, end_tag, escaped, tag_start}
 use Rattle.markup_parts.specs.declared.piece.Piece.{Piece}
 use Rattle.markup_parts.specs.declared.piece.Piece.TheVariants as pieces
 

@@ -1,4 +1,4 @@
--- A mesh header stands in front of what follows it.
+-- A mesh header stands before what follows it.
 use Rattle.std.proofs.Common.{◌≡◌, ℕ, List, ◌++◌, arith}
 use Rattle.std.proofs.lemmas.Grind.{common_steps}
 use Rattle.mesh_header.specs.Grammar.{hops_then}

@@ -21,7 +21,7 @@ use Rattle.mesh_header.specs.Pieces.{Placed, IsPiece}
 use Rattle.mesh_header.specs.Grammar.{IsMesh, IsUnit, Spells, spelling, spelled_length, header_length, hops_then, mesh_then, piece_spelling}
 use Rattle.mesh_header.specs.Faults.{origin_at, hops_fault, header_fault, tag_fault, octet_fault, data_fault, size_fault, octets_fault, first_piece_fault}
 use Rattle.mesh_header.specs.Faults.{later_piece_fault, carried_fault, local_fault, load_fault, mesh_fault, unit_fault}
-use Rattle.mesh_header.specs.Reading.{hops_in, mesh_in, first_piece_at, later_piece_at, part_in, load_in, fields_in, unit_in}
+use Rattle.mesh_header.specs.Reader.{hops_in, mesh_in, first_piece_at, later_piece_at, part_in, load_in, fields_in, unit_in}
 use Rattle.mesh_header.specs.Laws.{UnitsAreRead, ReadUnitsAreSpelled, OneHopLessIsNoLonger}
 use Rattle.mesh_header.proofs.Spellings.{no_fault, few_then, many_then, zero_spelling, some_spelling}
 

@@ -140,7 +140,7 @@ piece_none front p h =
       | inr none ↦ let z : p.offset ≡ 0 = omega arith in rw (zero_spelling p z) (load_zero front p h z)
     ]
 
--- a header of one spelling or the other, in front of a load that has no fault
+-- a header of one spelling or the other, before a load that has no fault
 is_mesh : (d : ℕ) (octets : List ℕ) → 0x80 ≤ d → d < 0xC0 → first_fault d octets ≡ mesh_fault octets
 is_mesh d octets low high = grind (arith, common_steps)
 

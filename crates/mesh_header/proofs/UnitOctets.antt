@@ -12,7 +12,7 @@ use Rattle.mesh_header.specs.declared.unit.Unit.TheVariants as units
 use Rattle.mesh_header.specs.Pieces.{Placed}
 use Rattle.mesh_header.specs.Grammar.{IsUnit, hops_then, mesh_then, piece_spelling}
 use Rattle.mesh_header.specs.Faults.{origin_at, unit_fault}
-use Rattle.mesh_header.specs.Reading.{unit_in, fields_in, load_in, mesh_in, first_piece_at, later_piece_at}
+use Rattle.mesh_header.specs.Reader.{unit_in, fields_in, load_in, mesh_in, first_piece_at, later_piece_at}
 use Rattle.mesh_header.specs.Laws.{HasOctets, UnitSpellingsAreOctets, ReadUnitsHaveOctets}
 use Rattle.mesh_header.proofs.Readings.{unit_spelled}
 

@@ -27,7 +27,7 @@ IsAllowed (Part mesh piece) = ⊤
 IsAllowed (Carried mesh body) = ⊤
 IsAllowed (Local code body) = (0 < code) × (code ≤ 5)
 
--- Each part of a header is spelled in front of what follows it.
+-- Each part of a header is spelled before what follows it.
 
 -- 0 to 14 hops stand in the first octet, 15 and more in an octet of their own
 unfoldable pub hops_then : ℕ → List ℕ → List ℕ

@@ -5,7 +5,7 @@ use Rattle.mesh_header.specs.declared.unit.Mesh.{Mesh}
 use Rattle.mesh_header.specs.declared.unit.Unit.{Unit}
 use Rattle.mesh_header.specs.declared.unit.Unit.TheVariants.{Whole, Part, Carried, Local}
 use Rattle.mesh_header.specs.Grammar.{Spells, spelling, header_length, hop_less}
-use Rattle.mesh_header.specs.Reading.{unit_in}
+use Rattle.mesh_header.specs.Reader.{unit_in}
 
 -- the unit that octets spell is read out of them
 abbrev pub UnitsAreRead : Type 0

@@ -50,7 +50,7 @@ pub(crate) fn mesh_of(octets: &[u8], first: u8) -> Result<(Mesh, usize), UnitFau
     Ok((Mesh { hops, origin, to }, at + 4))
 }
 
-// Writes a mesh header, in front of whatever is to follow it.
+// Writes a mesh header, before whatever is to follow it.
 #[tactic(auto, unfolding(crate::specs::Grammar::hops_then))]
 pub(crate) fn write_mesh(mesh: &Mesh, out: &mut FrameBuf)
     requires { length out.old + header_length mesh.now.hops ≤ LONGEST_FRAME }

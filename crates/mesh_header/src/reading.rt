@@ -3,7 +3,7 @@ ghost use Rattle.std.specs.Prelude.{◌≡◌, ◌≤◌, ◌<◌, ◌∷◌, le
 ghost use Rattle.std.specs.Result.{result_ok};
 ghost use Rattle.plc_base.specs.Fields.{octet, after};
 ghost use Rattle.mesh_header.specs.Grammar.{Spells, spelled_length};
-ghost use Rattle.mesh_header.specs.Reading.{unit_in};
+ghost use Rattle.mesh_header.specs.Reader.{unit_in};
 ghost use Rattle.mesh_header.specs.Faults.{unit_fault};
 ghost use Rattle.mesh_header.specs.declared.unit.Unit.{Unit};
 ghost use Rattle.plc_base.specs.declared.limits.TheConstants.{LONGEST_FRAME};

@@ -10,7 +10,7 @@ use Rattle.frame_counters.specs.PeerMarks.{peers}
 use Rattle.routing_set.specs.RoutingSet.{ranks}
 use Rattle.host_calls.specs.declared.status.Status.{Status}
 use Rattle.host_calls.specs.declared.status.Status.TheVariants.{Done, Refused, Halted, BadStore, Malformed, Memory}
-use Rattle.meter_host.specs.Loading.{Follows, IsLoaded}
+use Rattle.meter_host.specs.LoadedRecords.{Follows, IsLoaded}
 
 nothing_there : {A : Type 0} (o : Option A) → o ≡ None → IsSome o → ⊥
 nothing_there None e is = absurd (cc)

@@ -11,22 +11,22 @@ use Rattle.plc_base.specs.Fields.{part}
 use Rattle.plc_base.specs.Keeper.{Store}
 use Rattle.plc_base.specs.declared.keeper.BadStore.{BadStore}
 use Rattle.node_rules.specs.Memory as memory
-use Rattle.node_rules.specs.StoreReading.{memory_of}
+use Rattle.node_rules.specs.RestartStates.{memory_of}
 use Rattle.host_items.specs.Items.{Item, spelling}
 use Rattle.host_calls.specs.declared.status.Status.{Status}
 use Rattle.host_calls.specs.declared.status.Status.TheVariants as status
-use Rattle.host_calls.proofs.Writing.{all, behind}
-use Rattle.host_calls.proofs.Writing as writing
+use Rattle.host_calls.proofs.WrittenTexts.{all, behind}
+use Rattle.host_calls.proofs.WrittenTexts as written_texts
 use Rattle.meter_host.specs.declared.serving.Outcome.{Outcome}
 use Rattle.meter_host.specs.declared.serving.Outcome.TheVariants.{Ended, Unusable, Usage, Memory, ReadFault, WriteFault}
-use Rattle.meter_host.specs.Serving.{Phase, Runs, Closed, Turn, Answered, begins, goes_on, HasAnswered, GaveNone, ClosedAs, EndsAs, Serves}
-use Rattle.meter_host.specs.Calling.{NotOpened, Answers, puts_in}
-use Rattle.meter_host.specs.Serving.{outcome_of, taken_by, Refuses, Opens, Says, IsToOpen, IsTaken, TakesIn}
-use Rattle.host_items.specs.Reading.{HasFailed}
+use Rattle.meter_host.specs.ProgramRuns.{Phase, Runs, Closed, Turn, Answered, begins, goes_on, HasAnswered, GaveNone, ClosedAs, EndsAs, Serves}
+use Rattle.meter_host.specs.ItemCalls.{NotOpened, Answers, puts_in}
+use Rattle.meter_host.specs.ProgramRuns.{outcome_of, taken_by, Refuses, Opens, Says, IsToOpen, IsTaken, TakesIn}
+use Rattle.host_items.specs.ItemReader.{HasFailed}
 use Rattle.host_calls.specs.Answers.{status_text, answer_text}
 use Rattle.meter_node.specs.MeterStates.{MeterState}
 
--- What was answered so far, and that it has at least so many octets.
+-- What was answered so far, and that it has at least this many octets.
 pub record SoFar (first : Phase) (source0 source1 : SourceState) (sink0 sink1 : SinkState) (last : Phase) (count : ℕ) : Type 0 where
   pub items : HasAnswered first source0 source1 sink0 sink1 last
   pub counted : count ≤ length items.read
@@ -38,7 +38,7 @@ begun first source sink = record {
     said = [];
     answered = begins first;
     gave = Consumes-nil source.left;
-    written = writing.done (writing.none sink);
+    written = written_texts.done (written_texts.none sink);
     source = no_reads source;
   };
   counted = omega arith;
@@ -252,7 +252,7 @@ ends_at_once first source sink = record {
   answered = begins first;
   mid = source;
   gave = Consumes-nil source.left;
-  written = writing.done (writing.none sink);
+  written = written_texts.done (written_texts.none sink);
   ends = (inl refl, refl);
   before = no_reads source;
   after = no_reads source;

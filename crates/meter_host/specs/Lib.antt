@@ -1,5 +1,5 @@
-pub mod Loading
+pub mod LoadedRecords
 pub mod Refusals
-pub mod Making
-pub mod Calling
-pub mod Serving
+pub mod CallEffects
+pub mod ItemCalls
+pub mod ProgramRuns

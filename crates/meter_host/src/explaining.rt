@@ -1,6 +1,6 @@
 //! What the program says of itself.
 ghost use Rattle.plc_base.specs.Streams.{HasWritten};
-ghost use Rattle.meter_host.specs.Serving.{usage_text, taken_by, Explains};
+ghost use Rattle.meter_host.specs.ProgramRuns.{usage_text, taken_by, Explains};
 
 use crate::serving::Outcome;
 use plc_base::{Sink, write_all};

@@ -1,6 +1,6 @@
 //! A frame that came.
 ghost use Rattle.std.specs.Prelude.{◌≡◌};
-ghost use Rattle.meter_host.specs.Making.{up_of, is_joined_by, joined_by, Hears};
+ghost use Rattle.meter_host.specs.CallEffects.{up_of, is_joined_by, joined_by, Hears};
 
 use crate::hosting::Host;
 use crate::making::ended;

@@ -5,11 +5,11 @@ ghost use Rattle.store_tables.specs.SlotTables.{IsGapless};
 ghost use Rattle.frame_counters.specs.PeerMarks.{peers};
 ghost use Rattle.routing_set.specs.RoutingSet.{ranks};
 ghost use Rattle.node_rules.specs.Memory as memory;
-ghost use Rattle.node_rules.specs.StoreReading.{memory_of};
+ghost use Rattle.node_rules.specs.RestartStates.{memory_of};
 ghost use Rattle.meter_node.specs.MeterStates.{node_of};
 ghost use Rattle.plc_base.specs.Streams.{HasWritten};
 ghost use Rattle.host_calls.specs.Answers.{answer_text};
-ghost use Rattle.meter_host.specs.Calling.{Called, Answers, puts_in, NotOpened};
+ghost use Rattle.meter_host.specs.ItemCalls.{Called, Answers, puts_in, NotOpened};
 
 use host_calls::{Given, Status, read_call, write_answer};
 use meter_node::Meter;

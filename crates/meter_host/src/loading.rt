@@ -5,7 +5,7 @@ ghost use Rattle.plc_base.specs.Keeper.{IsSlot};
 ghost use Rattle.store_tables.specs.SlotTables.{IsGapless};
 ghost use Rattle.frame_counters.specs.PeerMarks.{peers};
 ghost use Rattle.routing_set.specs.RoutingSet.{ranks};
-ghost use Rattle.meter_host.specs.Loading.{Follows, IsLoaded};
+ghost use Rattle.meter_host.specs.LoadedRecords.{Follows, IsLoaded};
 
 use byteorder::{BigEndian, ByteOrder};
 use host_calls::Status;

@@ -4,17 +4,17 @@ ghost use Rattle.std.specs.Option.{option_map};
 ghost use Rattle.node_rules.specs.Calls as calls;
 ghost use Rattle.node_rules.specs.Meters as meters;
 ghost use Rattle.node_rules.specs.MemoryDrafts as drafts;
-ghost use Rattle.node_rules.specs.Carrying.{nothing};
+ghost use Rattle.node_rules.specs.CarriedPlans.{nothing};
 ghost use Rattle.meter_node.specs.MeterStates.{identity_of, node_of};
 ghost use Rattle.host_calls.specs.Answers.{none_given};
 ghost use Rattle.host_calls.specs.declared.status.Status.TheVariants.{Done};
-ghost use Rattle.meter_host.specs.Making.{status_of, NodeDid, StationDid, Made};
+ghost use Rattle.meter_host.specs.CallEffects.{status_of, NodeDid, StationDid, Made};
 ghost use Rattle.meter_host.specs.Refusals.{ring_number, preset_number, random_number, join_number, leave_number, send_number};
 
 use crate::hosting::Host;
 use crate::refusals::Refusal;
 use host_calls::{Call, Given, Status};
-use plc_base::{Grant, LinkCost, Rand, Short};
+use plc_base::{Grant, LinkCost, RandomOctets, Short};
 use plc_station::Buffers;
 
 /// How a call of the meter ended, by its answer.
@@ -45,7 +45,7 @@ impl Host {
     }
 
     // Gives a random value.
-    fn random(&mut self, value: Rand) -> Status
+    fn random(&mut self, value: RandomOctets) -> Status
         ensures { NodeDid random_number (λ m. drafts.give_random m value) self.old result nothing self.new }
     {
         ended(&self.meter.give_random(value))

@@ -1,7 +1,7 @@
 //! The two phases: records are loaded, and then the meter is called.
 ghost use Rattle.std.specs.Prelude.{◌≡◌, ◌≢◌, [], Some, IfOk};
 ghost use Rattle.plc_base.specs.Streams.{SourceFaults, SourceRose, SinkRose};
-ghost use Rattle.meter_host.specs.Serving.{outcome_number, outcome_of, no_records, Loads, Runs, IsTaken, Opens, NextIs, LoadsAll, Says, Serves};
+ghost use Rattle.meter_host.specs.ProgramRuns.{outcome_number, outcome_of, no_records, Loads, Runs, IsTaken, Opens, NextIs, LoadsAll, Says, Serves};
 ghost use Rattle.host_calls.specs.Answers.{status_text};
 
 use crate::hosting::Host;

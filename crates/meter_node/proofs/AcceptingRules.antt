@@ -14,13 +14,13 @@ use Rattle.node_rules.specs.declared.heard.Path.TheVariants as paths
 use Rattle.node_rules.specs.declared.refusal.FrameRefusal.{FrameRefusal}
 use Rattle.node_rules.specs.declared.refusal.FrameRefusal.TheVariants.{NotForMe, Halted}
 use Rattle.plc_base.specs.declared.out_frame.Out.{Out}
-use Rattle.node_rules.specs.Carrying.{Carries}
+use Rattle.node_rules.specs.CarriedPlans.{Carries}
 use Rattle.node_rules.specs.States.{State}
 use Rattle.node_rules.specs.Frames.{Arrived}
 use Rattle.node_rules.specs.Memory.{StationMemory}
 use Rattle.node_rules.specs.Plans.{resting}
-use Rattle.node_rules.specs.Accepting.{Accepting, accept, accept_head, is_own, is_for_me, refuse, marking, admitted, open_sealed, with_key}
-use Rattle.meter_node.specs.Hearing.{CameUp}
+use Rattle.node_rules.specs.Acceptance.{Accepting, accept, accept_head, is_own, is_for_me, refuse, marking, admitted, open_sealed, with_key}
+use Rattle.meter_node.specs.MeterAnswers.{CameUp}
 use Rattle.meter_node.specs.Laws.{AcceptedFramesCame}
 
 -- what is accepted can come to the meter that is left

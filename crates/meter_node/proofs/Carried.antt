@@ -3,7 +3,7 @@ use Rattle.std.proofs.Common.{◌≡◌, ℕ, true, false, List, [], ◌∷◌, 
 use Rattle.std.specs.Prelude.{IfSome, is_some, nat_lt}
 use Rattle.std.specs.Option.{option_map}
 use Rattle.store_tables.specs.Writes.{Wrote}
-use Rattle.plc_base.specs.declared.key.Rand.{Rand}
+use Rattle.plc_base.specs.declared.key.RandomOctets.{RandomOctets}
 use Rattle.plc_base.specs.declared.out_frame.Out.{Out}
 use Rattle.plc_base.specs.declared.tags.TagList.{TagList}
 use Rattle.eap_psk.specs.Tags.{no_tags}
@@ -20,15 +20,15 @@ use Rattle.node_rules.specs.Memory.{StationMemory, Memory, MeterSession, ByAgent
 use Rattle.node_rules.specs.Plans.{Plan, resting, within}
 use Rattle.node_rules.specs.Drafts.{Ends, empty_draft, refused, sealing, choose, with_ring}
 use Rattle.node_rules.specs.Calls as calls
-use Rattle.node_rules.specs.Joining.{message}
+use Rattle.node_rules.specs.JoiningPackets.{message}
 use Rattle.node_rules.specs.MemoryDrafts.{in_memory, on_station, with_memory_by, goes_up, given_ends, give_random}
 use Rattle.node_rules.specs.Meters as meters
 use Rattle.node_rules.specs.States.{State}
 use Rattle.node_rules.specs.Agreement.{Agrees, AgreesWith}
-use Rattle.node_rules.specs.Carrying.{Carries, nothing}
-use Rattle.node_rules.specs.Composing.{begun}
-use Rattle.node_rules.proofs.Composing.{carries_within, carries_quiet, state_is}
-use Rattle.plc_station.proofs.Carrying.{at_some}
+use Rattle.node_rules.specs.CarriedPlans.{Carries, nothing}
+use Rattle.node_rules.specs.ComposedPlans.{begun}
+use Rattle.node_rules.proofs.ComposedPlans.{carries_within, carries_quiet, state_is}
+use Rattle.plc_station.proofs.CarriedPlans.{at_some}
 use Rattle.meter_node.specs.MeterStates.{MeterState, memory_with, node_of, identity_of}
 
 -- what holds of a memory that stands on another one
@@ -79,12 +79,13 @@ as_station {A} {B} reads x y p q answer out plan c =
 
 -- # Random values
 
-pub given : (x : MeterState) (l : StationMemory) (value : Rand) (r : List Rand) → nat_lt 7 (length x.randoms) ≡ false → r ≡ x.randoms ++ value ∷ []
+pub given : (x : MeterState) (l : StationMemory) (value : RandomOctets) (r : List RandomOctets) → nat_lt 7 (length x.randoms) ≡ false
+    → r ≡ x.randoms ++ value ∷ []
     → sealing in_memory given_ends (begun [] (memory_with (record x { randoms = r }) l) [] [] []) tt ≡ give_random (memory_with x l) value
 unfolding choose with_memory_by empty_draft
 given x l value r few is = rw (few, is) refl
 
-pub full : (x : MeterState) (l : StationMemory) (value : Rand) → nat_lt 7 (length x.randoms) ≡ true
+pub full : (x : MeterState) (l : StationMemory) (value : RandomOctets) → nat_lt 7 (length x.randoms) ≡ true
     → refused given_ends (memory_with x l) RandomsFull ≡ give_random (memory_with x l) value
 unfolding choose
 full x l value many = rw many refl

@@ -6,7 +6,7 @@ use Rattle.std.proofs.lemmas.List.{append-nil}
 use Rattle.plc_base.specs.Faults.{◌then◌}
 use Rattle.plc_base.specs.Grant.{Granted}
 use Rattle.store_tables.specs.Writes.{Wrote, puts_of}
-use Rattle.plc_base.specs.declared.key.Rand.{Rand}
+use Rattle.plc_base.specs.declared.key.RandomOctets.{RandomOctets}
 use Rattle.plc_base.specs.declared.tags.PairTag.{PairTag}
 use Rattle.plc_base.specs.declared.out_frame.Out.{Out}
 use Rattle.store_tables.proofs.WritesLemmas.{wrote_none}
@@ -30,19 +30,19 @@ use Rattle.node_rules.specs.Frames.{Sent, Up, spelled}
 use Rattle.node_rules.specs.Memory.{StationMemory, Memory, MeterSession, SessionWay, ByAgent, ByCommand}
 use Rattle.node_rules.specs.Plans.{Plan}
 use Rattle.node_rules.specs.Drafts.{Ends, empty_draft, with_ring, refused, sealing, checked, choose}
-use Rattle.node_rules.specs.Hearing.{dropped}
+use Rattle.node_rules.specs.HearingRules.{dropped}
 use Rattle.node_rules.specs.Calls as calls
-use Rattle.node_rules.specs.Joining.{is_first, message}
+use Rattle.node_rules.specs.JoiningPackets.{is_first, message}
 use Rattle.node_rules.specs.MemoryDrafts.{in_memory, on_station, with_memory_by, with_pair_tags, goes_up, packet_fault}
 use Rattle.node_rules.specs.Meters as meters
 use Rattle.node_rules.specs.States.{State}
 use Rattle.node_rules.specs.Agreement.{Agrees, AgreesWith}
-use Rattle.node_rules.specs.Carrying.{Carries, nothing}
-use Rattle.node_rules.specs.Composing.{begun}
-use Rattle.node_rules.proofs.Composing.{carries_quiet, carries_unsealed, sealed_quiet, installed, not_installed, Whole, CutOff, ring_alone}
-use Rattle.plc_station.proofs.Carrying.{at_some}
+use Rattle.node_rules.specs.CarriedPlans.{Carries, nothing}
+use Rattle.node_rules.specs.ComposedPlans.{begun}
+use Rattle.node_rules.proofs.ComposedPlans.{carries_quiet, carries_unsealed, sealed_quiet, installed, not_installed, Whole, CutOff, ring_alone}
+use Rattle.plc_station.proofs.CarriedPlans.{at_some}
 use Rattle.meter_node.specs.MeterStates.{MeterState, memory_with, node_of, identity_of}
-use Rattle.meter_node.specs.Hearing.{first_refusal, peer_in, third_refusal_of, third_refusal}
+use Rattle.meter_node.specs.MeterAnswers.{first_refusal, peer_in, third_refusal_of, third_refusal}
 use Rattle.meter_node.proofs.CommandRules.{InCommand}
 
 -- # What is given out beside a change
@@ -129,15 +129,15 @@ module _ (x : MeterState) (l : StationMemory) (session_way : SessionWay) (packet
   abbrev pub replying : Peer → MeterState
   replying peer = record x { randoms = drop 1 x.randoms; session = Some (record { session_way = session_way; peer = Some peer; since = now }) }
 
-  abbrev Replies : Option Dropped → Option Rand → Option EapFault → meters.Hearing
+  abbrev Replies : Option Dropped → Option RandomOctets → Option EapFault → meters.Hearing
   Replies f o k =
       checked dropped (memory_with x l) f
       (option_map_or (λ value. checked dropped (memory_with x l) (option_map packet_fault k)
       (meters.reply_with (identity_of x) (memory_with x l) session_way packet now value)) o
       (meters.drop_it (memory_with x l) NoRandom))
 
-  reply_refused_by : (f : Option Dropped) (o : Option Rand) (k : Option EapFault) (reason : Dropped)
-      → (f then option_map_or (λ (value : Rand). option_map packet_fault k) o (Some NoRandom)) ≡ Some reason
+  reply_refused_by : (f : Option Dropped) (o : Option RandomOctets) (k : Option EapFault) (reason : Dropped)
+      → (f then option_map_or (λ (value : RandomOctets). option_map packet_fault k) o (Some NoRandom)) ≡ Some reason
       → refused {H = MeterHeard} dropped (memory_with x l) reason ≡ Replies f o k
   unfolding checked
   reply_refused_by (Some r) o k reason h = ap (λ q. refused {H = MeterHeard} dropped (memory_with x l) q) (sym (same_reason r reason h))
@@ -150,8 +150,8 @@ module _ (x : MeterState) (l : StationMemory) (session_way : SessionWay) (packet
       → refused {H = MeterHeard} dropped (memory_with x l) reason ≡ meters.reply (identity_of x) (memory_with x l) session_way packet now
   reply_refused reason h = reply_refused_by (meters.first_way_fault (memory_with x l) session_way) (slice_get x.randoms 0) (first_fault packet) reason h
 
-  no_fault : (o : Option Rand) (k : Option EapFault) (v : Rand) → o ≡ Some v
-      → option_map_or (λ (value : Rand). option_map packet_fault k) o (Some NoRandom) ≡ None → k ≡ None
+  no_fault : (o : Option RandomOctets) (k : Option EapFault) (v : RandomOctets) → o ≡ Some v
+      → option_map_or (λ (value : RandomOctets). option_map packet_fault k) o (Some NoRandom) ≡ None → k ≡ None
   no_fault (Some w) None v e h = refl
   no_fault (Some w) (Some fault) v e h = absurd (some_none (packet_fault fault) h)
   no_fault None k v e h = absurd (some_none NoRandom h)

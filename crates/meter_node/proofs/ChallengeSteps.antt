@@ -3,7 +3,7 @@ use Rattle.std.proofs.Common.{◌≡◌, ℕ, List, [], ◌∷◌, drop, map, le
 use Rattle.std.specs.Prelude.{slice_get, IfSome, IsSome}
 use Rattle.plc_base.specs.Grant.{Granted}
 use Rattle.store_tables.specs.Writes.{puts_of}
-use Rattle.plc_base.specs.declared.key.Rand.{Rand}
+use Rattle.plc_base.specs.declared.key.RandomOctets.{RandomOctets}
 use Rattle.plc_base.specs.declared.out_frame.Out.{Out}
 use Rattle.store_tables.proofs.WritesLemmas.{wrote_none}
 use Rattle.group_keys.specs.KeyRing.{ring_write}
@@ -25,19 +25,19 @@ use Rattle.node_rules.specs.Frames.{Up, spelled}
 use Rattle.node_rules.specs.Memory.{StationMemory, Memory, SessionWay, ByAgent, ByCommand, address_of}
 use Rattle.node_rules.specs.Plans.{Plan}
 use Rattle.node_rules.specs.Drafts.{refused}
-use Rattle.node_rules.specs.Hearing.{dropped, dropped_for}
+use Rattle.node_rules.specs.HearingRules.{dropped, dropped_for}
 use Rattle.node_rules.specs.Calls as calls
-use Rattle.node_rules.specs.Joining.{message, command_of}
+use Rattle.node_rules.specs.JoiningPackets.{message, command_of}
 use Rattle.node_rules.specs.Meters as meters
 use Rattle.node_rules.specs.States.{State}
 use Rattle.node_rules.specs.Agreement.{Agrees, AgreesWith}
-use Rattle.node_rules.specs.Carrying.{Carries, nothing}
+use Rattle.node_rules.specs.CarriedPlans.{Carries, nothing}
 use Rattle.node_rules.specs.Calls.{command_fault}
-use Rattle.node_rules.specs.Composing.{HasRoom}
-use Rattle.node_rules.proofs.Composing.{installed, not_installed, Whole, CutOff, ring_alone, room_kept}
-use Rattle.plc_station.proofs.Carrying.{at_some}
+use Rattle.node_rules.specs.ComposedPlans.{HasRoom}
+use Rattle.node_rules.proofs.ComposedPlans.{installed, not_installed, Whole, CutOff, ring_alone, room_kept}
+use Rattle.plc_station.proofs.CarriedPlans.{at_some}
 use Rattle.meter_node.specs.MeterStates.{MeterState, memory_with, node_of, identity_of}
-use Rattle.meter_node.specs.Hearing.{first_refusal, peer_in, third_refusal}
+use Rattle.meter_node.specs.MeterAnswers.{first_refusal, peer_in, third_refusal}
 use Rattle.meter_node.proofs.CommandRules.{Commands, commanded, not_commanded, stopped_before, goes_in_command, lacks_in_command, address_at}
 use Rattle.meter_node.proofs.CommandRules.{same_frames}
 use Rattle.meter_node.proofs.ChallengeRules.{changes_with, ring_changes, ring_fails, replying, reply_goes, replies_by_agent, replies_in_command, take_goes}
@@ -50,25 +50,25 @@ module _ (x : MeterState) (l : StationMemory) (packet : List ℕ) (now : ℕ) (p
   Second = message x.station.eui (body.Join (second_packet (keys_of x.psk.0) (identifier_of packet) peer))
 
   -- the meter that replied
-  abbrev pub Replied : SessionWay → State StationMemory → List Rand → MeterState
+  abbrev pub Replied : SessionWay → State StationMemory → List RandomOctets → MeterState
   Replied session_way u r = record x { station = u; randoms = r; session = Some (record { session_way = session_way; peer = Some peer; since = now }) }
 
   module _ (fine : first_refusal x.randoms packet ≡ None) (value : slice_get x.randoms 0 ≡ Some peer.rand_p)
       (is : peer ≡ peer_for x.station.eui peer.rand_p packet) where
-    pub agent_replied : (agent : ℕ) (r : List Rand) (out : Out) → x.station.memory ≡ Some l → Agrees x.station
+    pub agent_replied : (agent : ℕ) (r : List RandomOctets) (out : Out) → x.station.memory ≡ Some l → Agrees x.station
         → meters.air_fault (memory_with x l) (ByAgent agent) ≡ None → r ≡ drop 1 x.randoms
         → out ≡ record { frames = map (spelled network) (Up agent x.station.eui Second ∷ []); tags = first_tags peer }
         → Carries (node_of x) (meters.reply (identity_of x) (memory_with x l) (ByAgent agent) packet now) (Ok heard.Replied) out
         (node_of (Replied (ByAgent agent) x.station r))
     agent_replied agent r out running agrees free left is_out =
-        subst (λ (k : List Rand). Carries (node_of x) (meters.reply (identity_of x) (memory_with x l) (ByAgent agent) packet now) (Ok heard.Replied) out
+        subst (λ (k : List RandomOctets). Carries (node_of x) (meters.reply (identity_of x) (memory_with x l) (ByAgent agent) packet now) (Ok heard.Replied) out
         (node_of (Replied (ByAgent agent) x.station k))) (sym left)
         (changes_with dropped x (Replied (ByAgent agent) x.station (drop 1 x.randoms)) l (Up agent peer.eui Second ∷ []) (first_tags peer).made [] heard.Replied
         (meters.reply (identity_of x) (memory_with x l) (ByAgent agent) packet now) out running agrees refl
         (replies_by_agent x l agent packet now peer Second ∙ reply_goes x l (ByAgent agent) packet now peer free fine value is)
         (is_out ∙ ap (λ e. record { frames = map (spelled network) (Up agent e Second ∷ []); tags = first_tags peer }) (sym (ap (λ (p : Peer). p.eui) is))))
 
-    module _ (u : State StationMemory) (r : List Rand) (left : r ≡ drop 1 x.randoms) (out : Out) (joined : IsSome l.ring)
+    module _ (u : State StationMemory) (r : List RandomOctets) (left : r ≡ drop 1 x.randoms) (out : Out) (joined : IsSome l.ring)
         (room : HasRoom l 0 (length (command_of Second))) where
       -- what the rule plans
       plan_reply : (own : ℕ) → address_of l ≡ Some own
@@ -84,7 +84,7 @@ module _ (x : MeterState) (l : StationMemory) (packet : List ℕ) (now : ℕ) (p
           → Carries (node_of x) (meters.reply (identity_of x) (memory_with x l) ByCommand packet now) (Ok heard.Replied) more (node_of (Replied ByCommand u r))
       command_replied h more c is_more =
           let own = address_at l joined in
-          subst (λ (k : List Rand). Carries (node_of x) (meters.reply (identity_of x) (memory_with x l) ByCommand packet now) (Ok heard.Replied) more
+          subst (λ (k : List RandomOctets). Carries (node_of x) (meters.reply (identity_of x) (memory_with x l) ByCommand packet now) (Ok heard.Replied) more
           (node_of (Replied ByCommand u k))) (sym left)
           (subst (λ (p : Plan Memory (Result MeterHeard Dropped)). Carries (node_of x) p (Ok heard.Replied) more
           (node_of (Replied ByCommand u (drop 1 x.randoms)))) (plan_reply own.0 own.1)
@@ -97,7 +97,7 @@ module _ (x : MeterState) (l : StationMemory) (packet : List ℕ) (now : ℕ) (p
           → Carries (node_of x) (meters.reply (identity_of x) (memory_with x l) ByCommand packet now) (Err dropped.store) more (node_of (Replied ByCommand u r))
       command_failed e more c is_more =
           let own = address_at l joined in
-          subst (λ (k : List Rand). Carries (node_of x) (meters.reply (identity_of x) (memory_with x l) ByCommand packet now) (Err dropped.store) more
+          subst (λ (k : List RandomOctets). Carries (node_of x) (meters.reply (identity_of x) (memory_with x l) ByCommand packet now) (Err dropped.store) more
           (node_of (Replied ByCommand u k))) (sym left)
           (subst (λ (p : Plan Memory (Result MeterHeard Dropped)). Carries (node_of x) p (Err dropped.store) more
           (node_of (Replied ByCommand u (drop 1 x.randoms)))) (plan_reply own.0 own.1)

@@ -14,8 +14,8 @@ use Rattle.joining_messages.specs.declared.message.JoinBody.{JoinBody}
 use Rattle.joining_messages.specs.declared.message.JoinBody.TheVariants as body
 use Rattle.plc_base.specs.declared.address.Eui.{Eui}
 use Rattle.group_keys.specs.KeyRing.{Ring}
-use Rattle.agent_node.specs.Relaying as relaying
-use Rattle.node_rules.specs.Accepting.{same_eui}
+use Rattle.agent_node.specs.JoiningRelay as joining_relay
+use Rattle.node_rules.specs.Acceptance.{same_eui}
 use Rattle.node_rules.specs.declared.heard.MeterHeard.TheVariants as heard
 use Rattle.node_rules.specs.declared.refusal.Dropped.TheVariants.{BadUnit}
 use Rattle.node_rules.specs.declared.heard.MeterHeard.{MeterHeard}
@@ -25,19 +25,20 @@ use Rattle.node_rules.specs.declared.refusal.SendRefusal.{SendRefusal}
 use Rattle.node_rules.specs.declared.refusal.SendRefusal.TheVariants.{Store as StoreRefusal}
 use Rattle.node_rules.specs.Memory.{StationMemory, Memory, Load, Command, address_of, next_hop}
 use Rattle.node_rules.specs.Plans.{Plan, within}
-use Rattle.node_rules.specs.Joining.{command_of}
+use Rattle.node_rules.specs.JoiningPackets.{command_of}
 use Rattle.node_rules.specs.Meters as meters
 use Rattle.node_rules.specs.Drafts.{Draft, checked, refused, choose, empty_draft, sealing, sets_out, body_goes, waits, seeks_once, goes, with_own_number}
 use Rattle.node_rules.specs.Drafts.{is_awaited}
-use Rattle.node_rules.specs.Hearing.{dropped, dropped_for}
+use Rattle.node_rules.specs.HearingRules.{dropped, dropped_for}
 use Rattle.node_rules.specs.Calls as calls
 use Rattle.node_rules.specs.MemoryDrafts.{in_memory, on_station, is_commanded, command_lack}
 use Rattle.node_rules.specs.States.{State}
-use Rattle.node_rules.specs.Carrying.{Carries}
+use Rattle.node_rules.specs.CarriedPlans.{Carries}
 use Rattle.node_rules.specs.Calls.{command_fault}
-use Rattle.node_rules.specs.Composing.{behind, adding, out_with, seen, begun, answer_if_sent, command_alone, HasRoom}
-use Rattle.node_rules.proofs.Composing.{carries_stopped, carries_within, carries_behind, carries_adding, command_plan, command_sent, carried_whole, carried_cut}
-use Rattle.node_rules.proofs.Composing.{Whole, CutOff, room_seals, room_refuses, command_units}
+use Rattle.node_rules.specs.ComposedPlans.{behind, adding, out_with, seen, begun, answer_if_sent, command_alone, HasRoom}
+use Rattle.node_rules.proofs.ComposedPlans.{carries_stopped, carries_within, carries_behind, carries_adding, command_plan, command_sent, carried_whole}
+use Rattle.node_rules.proofs.ComposedPlans.{carried_cut}
+use Rattle.node_rules.proofs.ComposedPlans.{Whole, CutOff, room_seals, room_refuses, command_units}
 use Rattle.meter_node.specs.MeterStates.{MeterState, memory_with, node_of}
 
 -- # The command
@@ -207,7 +208,7 @@ same_number p q m n a b h = grind (arith, nat_tests)
 -- # Carrying up
 
 module _ (m : Memory) (join : JoinMessage) (from : Eui) (now own : ℕ) where
-  pub carries_up : (b : JoinBody) → relaying.goes_up b ≡ true → same_eui join.eui from ≡ true
+  pub carries_up : (b : JoinBody) → joining_relay.goes_up b ≡ true → same_eui join.eui from ≡ true
       → InCommand m m join now own heard.Carried [] [] [] ≡ meters.carry_up m from join b now
   unfolding choose empty_draft
   carries_up (body.Join eap) goes same = λ i. choose (sym same i) (meters.carries_up m join now) (meters.drop_it m BadUnit)
@@ -217,7 +218,7 @@ module _ (m : Memory) (join : JoinMessage) (from : Eui) (now own : ℕ) where
   carries_up body.Kick goes same = absurd (cc)
   carries_up (body.Activate index) goes same = absurd (cc)
 
-  pub not_up : (b : JoinBody) → relaying.goes_up b ≡ false → refused {H = MeterHeard} dropped m BadUnit ≡ meters.carry_up m from join b now
+  pub not_up : (b : JoinBody) → joining_relay.goes_up b ≡ false → refused {H = MeterHeard} dropped m BadUnit ≡ meters.carry_up m from join b now
   not_up (body.Join eap) goes = absurd (cc)
   not_up (body.Challenge eap) goes = refl
   not_up (body.Accept identifier) goes = refl
@@ -263,7 +264,7 @@ sent_zero s u to octets command now r out zero is c =
 
 module _ (x : MeterState) (u : State StationMemory) (l : StationMemory) (from : Eui) (join : JoinMessage) (now : ℕ) (out : Out) (joined : IsSome l.ring)
     (room : HasRoom l 0 (length (command_of join)))
-    (goes : relaying.goes_up join.body ≡ true) (same : same_eui join.eui from ≡ true) where
+    (goes : joining_relay.goes_up join.body ≡ true) (same : same_eui join.eui from ≡ true) where
   own_at : (own : ℕ) × (address_of l ≡ Some own)
   own_at = address_at l joined
 
@@ -289,7 +290,7 @@ module _ (x : MeterState) (u : State StationMemory) (l : StationMemory) (from : 
       (untagged_cut x (record x { station = u }) x.station l [] [] [] own_at.0 0 (command_of join) now heard.Carried out out e own_at.1 room c))
 
 pub up_lacks : (x : MeterState) (l : StationMemory) (from : Eui) (join : JoinMessage) (now : ℕ) (reason : Dropped) → IsSome l.ring
-    → relaying.goes_up join.body ≡ true → same_eui join.eui from ≡ true
+    → joining_relay.goes_up join.body ≡ true → same_eui join.eui from ≡ true
     → command_fault dropped dropped_for l 0 (length (command_of join)) ≡ Some reason
     → refused {H = MeterHeard} dropped (memory_with x l) reason ≡ meters.carry_up (memory_with x l) from join join.body now
 up_lacks x l from join now reason joined goes same fault =

@@ -8,15 +8,15 @@ use Rattle.node_rules.specs.declared.heard.MeterHeard.TheVariants as heard
 use Rattle.node_rules.specs.declared.heard.Way.TheVariants.{Near, Mesh}
 use Rattle.node_rules.specs.declared.refusal.Dropped.{Dropped}
 use Rattle.node_rules.specs.declared.refusal.Dropped.TheVariants.{BadUnit}
-use Rattle.node_rules.specs.Accepting.{same_eui}
+use Rattle.node_rules.specs.Acceptance.{same_eui}
 use Rattle.node_rules.specs.Memory.{StationMemory, Memory}
 use Rattle.node_rules.specs.Drafts.{empty_draft, choose}
-use Rattle.node_rules.specs.Hearing.{dropped}
+use Rattle.node_rules.specs.HearingRules.{dropped}
 use Rattle.node_rules.specs.Meters as meters
 use Rattle.node_rules.specs.Agreement.{Agrees}
-use Rattle.node_rules.specs.Carrying.{Carries, nothing}
-use Rattle.node_rules.specs.Composing.{begun}
-use Rattle.node_rules.proofs.Composing.{sealed_quiet}
+use Rattle.node_rules.specs.CarriedPlans.{Carries, nothing}
+use Rattle.node_rules.specs.ComposedPlans.{begun}
+use Rattle.node_rules.proofs.ComposedPlans.{sealed_quiet}
 use Rattle.meter_node.specs.MeterStates.{MeterState, memory_with, node_of, identity_of}
 use Rattle.meter_node.proofs.Carried.{on_node, refuses, changes}
 use Rattle.meter_node.proofs.HearingRules.{same_plan}

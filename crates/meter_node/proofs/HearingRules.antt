@@ -8,9 +8,9 @@ use Rattle.plc_base.specs.Keeper.{Store}
 use Rattle.store_tables.specs.Writes.{Wrote}
 use Rattle.plc_base.specs.declared.out_frame.Out.{Out}
 use Rattle.store_tables.proofs.WritesLemmas.{wrote_none}
-use Rattle.joining_messages.specs.Reading.{join_in}
+use Rattle.joining_messages.specs.Reader.{join_in}
 use Rattle.mesh_header.specs.declared.unit.Unit.{Unit as MeshUnit}
-use Rattle.mesh_header.specs.Reading.{unit_in}
+use Rattle.mesh_header.specs.Reader.{unit_in}
 use Rattle.node_rules.specs.Accepted.{Accepted}
 use Rattle.node_rules.specs.declared.heard.Heard.{Heard}
 use Rattle.node_rules.specs.declared.heard.Heard.TheVariants.{Up, Held, Relayed, Answered, Learned, Broken, Reported, Joining, Local}
@@ -24,17 +24,17 @@ use Rattle.node_rules.specs.declared.refusal.Dropped.TheVariants as drops
 use Rattle.node_rules.specs.Memory.{StationMemory, Memory}
 use Rattle.node_rules.specs.Plans.{Plan, resting}
 use Rattle.node_rules.specs.Replies.{reply_among, reply_sent}
-use Rattle.node_rules.specs.Hearing.{hear, hear_unit_in, hear_plain, is_joining}
+use Rattle.node_rules.specs.HearingRules.{hear, hear_unit_in, hear_plain, is_joining}
 use Rattle.node_rules.specs.MemoryDrafts.{Unread, unread}
 use Rattle.node_rules.specs.Meters as meters
 use Rattle.node_rules.specs.States.{State}
-use Rattle.node_rules.specs.Carrying.{Carries, given, nothing}
-use Rattle.node_rules.proofs.Composing.{carries_behind}
+use Rattle.node_rules.specs.CarriedPlans.{Carries, given, nothing}
+use Rattle.node_rules.proofs.ComposedPlans.{carries_behind}
 use Rattle.node_rules.proofs.Unread.{hear_hands_on}
 use Rattle.node_rules.proofs.Refusals.{drops as drops_cleanly}
-use Rattle.plc_station.proofs.Carrying.{at_some}
+use Rattle.plc_station.proofs.CarriedPlans.{at_some}
 use Rattle.meter_node.specs.MeterStates.{MeterState, memory_with, node_of, identity_of}
-use Rattle.meter_node.specs.Hearing.{CameUp, CameBy}
+use Rattle.meter_node.specs.MeterAnswers.{CameUp, CameBy}
 use Rattle.meter_node.proofs.Carried.{as_station}
 
 -- # A plan by another name

@@ -5,21 +5,21 @@ use Rattle.std.specs.Option.{option_map_or}
 use Rattle.joining_messages.specs.declared.message.JoinMessage.{JoinMessage}
 use Rattle.joining_messages.specs.declared.message.JoinBody.{JoinBody}
 use Rattle.joining_messages.specs.declared.message.JoinBody.TheVariants as body
-use Rattle.agent_node.specs.Relaying as relaying
+use Rattle.agent_node.specs.JoiningRelay as joining_relay
 use Rattle.node_rules.specs.declared.heard.MeterHeard.TheVariants as heard
 use Rattle.node_rules.specs.declared.refusal.Dropped.TheVariants.{BadUnit, NoSession}
 use Rattle.node_rules.specs.Frames.{Down}
 use Rattle.node_rules.specs.Memory.{StationMemory, ByAgent, address_of}
 use Rattle.node_rules.specs.Plans.{resting, within}
 use Rattle.node_rules.specs.Drafts.{empty_draft, refused, sealing, choose, with_ring}
-use Rattle.node_rules.specs.Hearing.{dropped}
+use Rattle.node_rules.specs.HearingRules.{dropped}
 use Rattle.node_rules.specs.Calls as calls
 use Rattle.node_rules.specs.MemoryDrafts.{in_memory, on_station, with_memory_by, goes_down}
 use Rattle.node_rules.specs.Meters as meters
-use Rattle.node_rules.specs.Composing.{begun}
-use Rattle.node_rules.proofs.Composing.{sealed_quiet}
+use Rattle.node_rules.specs.ComposedPlans.{begun}
+use Rattle.node_rules.proofs.ComposedPlans.{sealed_quiet}
 use Rattle.meter_node.specs.MeterStates.{MeterState, memory_with}
-use Rattle.meter_node.specs.Hearing.{activated_as, left_as}
+use Rattle.meter_node.specs.MeterAnswers.{activated_as, left_as}
 
 module _ (x : MeterState) (l : StationMemory) where
   -- # What the coordinator says
@@ -53,7 +53,7 @@ module _ (x : MeterState) (l : StationMemory) where
 
   -- # Carrying down
 
-  pub carries_down : (join : JoinMessage) (own : ℕ) (b : JoinBody) → Some own ≡ address_of l → relaying.goes_down b ≡ true
+  pub carries_down : (join : JoinMessage) (own : ℕ) (b : JoinBody) → Some own ≡ address_of l → joining_relay.goes_down b ≡ true
       → sealing in_memory dropped (begun [] (memory_with x l) (Down own join ∷ []) [] []) heard.Carried ≡ meters.carry_down (memory_with x l) join b
   unfolding goes_down empty_draft
   carries_down join own (body.Challenge eap) address goes = by_address join own address
@@ -76,7 +76,7 @@ module _ (x : MeterState) (l : StationMemory) where
   carries_down join own body.Kick address goes = absurd (cc)
   carries_down join own (body.Activate index) address goes = absurd (cc)
 
-  pub not_carried : (join : JoinMessage) (b : JoinBody) → relaying.goes_down b ≡ false
+  pub not_carried : (join : JoinMessage) (b : JoinBody) → joining_relay.goes_down b ≡ false
       → refused dropped (memory_with x l) BadUnit ≡ meters.carry_down (memory_with x l) join b
   not_carried join (body.Challenge eap) goes = absurd (cc)
   not_carried join (body.Accept identifier) goes = absurd (cc)

@@ -4,13 +4,13 @@ use Rattle.std.specs.Prelude.{IfSome, IfNone, IfOk, IsSome}
 use Rattle.std.specs.Option.{option_map}
 use Rattle.plc_base.specs.declared.out_frame.Out.{Out}
 use Rattle.node_rules.specs.Accepted.{Accepted}
-use Rattle.node_rules.specs.Accepting.{accept}
+use Rattle.node_rules.specs.Acceptance.{accept}
 use Rattle.node_rules.specs.declared.heard.MeterHeard.{MeterHeard}
 use Rattle.node_rules.specs.declared.refusal.Dropped.{Dropped}
 use Rattle.node_rules.specs.declared.refusal.FrameRefusal.{FrameRefusal}
 use Rattle.node_rules.specs.declared.refusal.FrameRefusal.TheVariants.{Halted}
 use Rattle.node_rules.specs.declared.refusal.Unheard.{Unheard}
-use Rattle.node_rules.specs.Carrying.{Carries, nothing}
+use Rattle.node_rules.specs.CarriedPlans.{Carries, nothing}
 use Rattle.node_rules.specs.Ciphers.{network}
 use Rattle.node_rules.specs.Frames.{Arrived}
 use Rattle.node_rules.specs.Memory.{StationMemory, Memory}
@@ -19,9 +19,9 @@ use Rattle.node_rules.specs.Meters as meters
 use Rattle.node_rules.specs.NodeSteps.{of_station}
 use Rattle.node_rules.specs.Receives.{Receives, FollowsAccepting, heard_or_why, why_refused}
 use Rattle.node_rules.specs.States.{State}
-use Rattle.node_rules.proofs.Composing.{carries_within}
-use Rattle.plc_station.proofs.Carrying.{at_some}
-use Rattle.meter_node.specs.Hearing.{CameUp}
+use Rattle.node_rules.proofs.ComposedPlans.{carries_within}
+use Rattle.plc_station.proofs.CarriedPlans.{at_some}
+use Rattle.meter_node.specs.MeterAnswers.{CameUp}
 use Rattle.meter_node.specs.MeterStates.{MeterState, memory_with, node_of, identity_of}
 use Rattle.meter_node.proofs.AcceptingRules.{accepted_came}
 use Rattle.meter_node.proofs.Carried.{on_node}

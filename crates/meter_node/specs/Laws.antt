@@ -4,8 +4,8 @@ use Rattle.plc_base.specs.declared.address.Eui.{Eui}
 use Rattle.node_rules.specs.Accepted.{Accepted}
 use Rattle.node_rules.specs.Frames.{Arrived}
 use Rattle.node_rules.specs.Memory.{StationMemory}
-use Rattle.node_rules.specs.Accepting.{accept}
-use Rattle.meter_node.specs.Hearing.{CameUp}
+use Rattle.node_rules.specs.Acceptance.{accept}
+use Rattle.meter_node.specs.MeterAnswers.{CameUp}
 
 -- a frame that is accepted can come to the meter that accepting it leaves
 abbrev pub AcceptedFramesCame : Type 0

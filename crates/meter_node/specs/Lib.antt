@@ -1,8 +1,8 @@
 pub mod Sessions
 pub mod MeterStates
 pub mod MeterCalls
-pub mod Reading
-pub mod Hearing
+pub mod OpenFaults
+pub mod MeterAnswers
 pub mod SendingUp
 pub mod Laws
 pub mod Ends

@@ -5,7 +5,7 @@ use Rattle.plc_base.specs.declared.tags.TagList.{TagList}
 use Rattle.node_rules.specs.declared.heard.SentHow.{SentHow}
 use Rattle.node_rules.specs.declared.refusal.SendRefusal.{SendRefusal}
 use Rattle.node_rules.specs.Calls as calls
-use Rattle.node_rules.specs.Carrying.{Carries}
+use Rattle.node_rules.specs.CarriedPlans.{Carries}
 use Rattle.node_rules.specs.Memory.{StationMemory}
 use Rattle.node_rules.specs.States.{State}
 

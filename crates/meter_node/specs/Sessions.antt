@@ -1,7 +1,7 @@
 -- A meter's session, as the rules have it.
 use Rattle.std.specs.Prelude.{◌≡◌, ℕ, List, Option, Some, None, refl}
 use Rattle.std.specs.Coded.{Coded, code_by, coded×, coded_ℕ, coded_list, coded_option}
-use Rattle.plc_base.specs.declared.key.Rand.{Rand}
+use Rattle.plc_base.specs.declared.key.RandomOctets.{RandomOctets}
 use Rattle.plc_base.specs.declared.key.Key.{Key}
 use Rattle.eap_psk.specs.declared.peer.Peer.{Peer}
 use Rattle.node_rules.specs.Memory as memory
@@ -53,7 +53,7 @@ session_code =
     (coded× session_way_code (coded× (coded_option peer_code) coded_ℕ)) (λ s. (s.session_way, (s.peer, s.since)))
     (λ t. record { session_way = t.0; peer = t.1.0; since = t.1.1 }) (λ _. refl)
 
-abbrev pub rand_code : Coded Rand
+abbrev pub rand_code : Coded RandomOctets
 rand_code = code_by (List ℕ) (coded_list coded_ℕ) (λ r. r.0) (λ xs. record { 0 = xs }) (λ _. refl)
 
 abbrev pub key_code : Coded Key

@@ -1,9 +1,9 @@
 //! What a meter does about a challenge.
 ghost use Rattle.std.specs.Prelude.{◌≡◌, Some, None, Ok, Err, IfSome, IsSome};
-ghost use Rattle.node_rules.specs.Joining as joining;
+ghost use Rattle.node_rules.specs.JoiningPackets as joining_packets;
 ghost use Rattle.node_rules.specs.Memory as memory;
 ghost use Rattle.node_rules.specs.Meters as meters;
-ghost use Rattle.node_rules.specs.Carrying.{Carries};
+ghost use Rattle.node_rules.specs.CarriedPlans.{Carries};
 ghost use Rattle.plc_station.specs.Ready.{ReadyToAnswer};
 ghost use Rattle.meter_node.specs.MeterCalls.{MeterAfter};
 ghost use Rattle.meter_node.specs.MeterStates.{identity_of, node_of};
@@ -17,7 +17,7 @@ use plc_base::{EapBuf, Keeper, Out, Short};
 // Whether a packet counts as a first one.
 #[tactic(auto, unfolding(plc_base::specs::Fields::octet))]
 fn is_first(packet: &[u8]) -> bool
-    ensures { result ≡ joining.is_first packet.now }
+    ensures { result ≡ joining_packets.is_first packet.now }
 {
     if packet.len() <= 5 {
         return false;

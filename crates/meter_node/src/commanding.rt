@@ -4,20 +4,20 @@ ghost use Rattle.joining_messages.specs.Messages.{IsMessage};
 ghost use Rattle.node_rules.specs.Ciphers.{network};
 ghost use Rattle.node_rules.specs.Frames.{spelled};
 ghost use Rattle.node_rules.specs.Frames as frames;
-ghost use Rattle.node_rules.specs.Joining.{command_of, message};
+ghost use Rattle.node_rules.specs.JoiningPackets.{command_of, message};
 ghost use Rattle.plc_base.specs.declared.limits.TheConstants.{MOST_FRAMES};
 ghost use Rattle.joining_messages.specs.declared.message.JoinBody.TheVariants as body;
 ghost use Rattle.node_rules.specs.Meters as meters;
-ghost use Rattle.node_rules.specs.Hearing.{dropped, dropped_for};
-ghost use Rattle.node_rules.specs.Carrying.{Carries};
+ghost use Rattle.node_rules.specs.HearingRules.{dropped, dropped_for};
+ghost use Rattle.node_rules.specs.CarriedPlans.{Carries};
 ghost use Rattle.plc_station.specs.Ready.{After, ReadyToAnswer};
 ghost use Rattle.meter_node.specs.MeterCalls.{MeterAfter};
 ghost use Rattle.meter_node.specs.SendingUp.{SentBeside};
 ghost use Rattle.node_rules.specs.Agreement.{Agrees};
 ghost use Rattle.node_rules.specs.Calls.{command_fault};
-ghost use Rattle.node_rules.specs.Composing.{HasRoom};
+ghost use Rattle.node_rules.specs.ComposedPlans.{HasRoom};
 ghost use Rattle.meter_node.specs.MeterStates.{node_of};
-ghost use Rattle.meter_node.specs.Hearing as hearing;
+ghost use Rattle.meter_node.specs.MeterAnswers as meter_answers;
 
 use crate::meter::Meter;
 use agent_node::goes_up;
@@ -58,7 +58,7 @@ fn write_up(message: &JoinMessage, command: &mut CommandBuf)
 
 // What a command lacks, as the reason of a drop.
 fn room_as(done: Result<(), SendRefusal>) -> Result<(), Dropped>
-    ensures { result ≡ hearing.room_as done }
+    ensures { result ≡ meter_answers.room_as done }
 {
     match done {
         Ok(()) => Ok(()),

@@ -1,19 +1,19 @@
 //! What a meter makes of a frame that it accepted.
 ghost use Rattle.std.specs.Prelude.{◌≡◌, Some, None, Ok, Err, IfSome, IsSome};
 ghost use Rattle.joining_messages.specs.Messages.{IsBody, IsMessage};
-ghost use Rattle.joining_messages.specs.Reading.{join_in};
+ghost use Rattle.joining_messages.specs.Reader.{join_in};
 ghost use Rattle.node_rules.specs.Memory.{StationMemory};
 ghost use Rattle.node_rules.specs.Memory as memory;
 ghost use Rattle.node_rules.specs.Meters as meters;
-ghost use Rattle.node_rules.specs.Carrying.{Carries, nothing};
+ghost use Rattle.node_rules.specs.CarriedPlans.{Carries, nothing};
 ghost use Rattle.plc_station.specs.Ready.{Ready, ReadyToAnswer};
 ghost use Rattle.meter_node.specs.MeterCalls.{MeterAfter};
-ghost use Rattle.node_rules.specs.Hearing.{hear};
+ghost use Rattle.node_rules.specs.HearingRules.{hear};
 ghost use Rattle.node_rules.specs.MemoryDrafts.{unread};
 ghost use Rattle.node_rules.specs.Replies.{reply_sent};
 ghost use Rattle.meter_node.specs.MeterStates.{identity_of, memory_with, node_of};
 ghost use Rattle.meter_node.specs.Sessions.{session_way_of};
-ghost use Rattle.meter_node.specs.Hearing as hearing;
+ghost use Rattle.meter_node.specs.MeterAnswers as meter_answers;
 
 use crate::meter::Meter;
 use crate::session::SessionWay;
@@ -42,7 +42,7 @@ fn same_session_way(a: SessionWay, b: SessionWay) -> bool
 
 // A key that the station seals with, as a meter says it.
 fn activated_as(done: Result<(), RingRefusal>) -> Result<MeterHeard<'static>, Dropped>
-    ensures { result ≡ hearing.activated_as done }
+    ensures { result ≡ meter_answers.activated_as done }
 {
     match done {
         Ok(()) => Ok(MeterHeard::Activated),
@@ -194,7 +194,7 @@ impl<K: Keeper + Drop> Meter<K> {
         out: &mut Out,
     ) -> Result<MeterHeard<'static>, Dropped>
         requires ready { ReadyToAnswer self.old.station out.old }
-        requires came { IfSome self.old.station.memory (λ l. hearing.CameBy way l) }
+        requires came { IfSome self.old.station.memory (λ l. meter_answers.CameBy way l) }
         requires message { IsMessage join.now }
         ensures carries { IfSome (node_of self.old).memory (λ m. Carries (node_of self.old)
             (meters.hear_join (identity_of self.old) m way join.now now) result out.new (node_of self.new)) }
@@ -230,7 +230,7 @@ impl<K: Keeper + Drop> Meter<K> {
         out: &mut Out,
     ) -> Result<MeterHeard<'static>, Dropped>
         requires ready { ReadyToAnswer self.old.station out.old }
-        requires came { IfSome self.old.station.memory (λ l. hearing.CameBy way l) }
+        requires came { IfSome self.old.station.memory (λ l. meter_answers.CameBy way l) }
         ensures carries { IfSome (node_of self.old).memory (λ m. Carries (node_of self.old)
             (meters.hear_join_in (identity_of self.old) m way (join_in body.now) now)
             result out.new (node_of self.new)) }
@@ -261,7 +261,7 @@ impl<K: Keeper + Drop> Meter<K> {
         out: &mut Out,
     ) -> Result<MeterHeard<'a>, Dropped>
         requires ready { Ready self.old.station }
-        requires came { IfSome self.old.station.memory (λ l. hearing.CameUp got.path l) }
+        requires came { IfSome self.old.station.memory (λ l. meter_answers.CameUp got.path l) }
         ensures carries { IfSome (node_of self.old).memory (λ m. Carries (node_of self.old)
             (meters.hear_meter (identity_of self.old) m got.entry cost note now) result out.new (node_of self.new)) }
         ensures after { MeterAfter self.old self.new }

@@ -2,7 +2,7 @@
 ghost use Rattle.std.specs.Prelude.{◌≡◌, Some, None, Ok, Err, IfSome, IfNone, is_some};
 ghost use Rattle.node_rules.specs.MemoryDrafts as drafts;
 ghost use Rattle.node_rules.specs.Meters as meters;
-ghost use Rattle.node_rules.specs.Carrying.{Carries, nothing};
+ghost use Rattle.node_rules.specs.CarriedPlans.{Carries, nothing};
 ghost use Rattle.node_rules.specs.Agreement.{Agrees};
 ghost use Rattle.meter_node.specs.MeterCalls.{MeterAfter};
 ghost use Rattle.meter_node.specs.MeterStates.{identity_of, node_of};
@@ -12,7 +12,7 @@ use crate::session::{Session, SessionWay};
 use joining_base::push_up;
 use joining_messages::{JoinBody, JoinMessage};
 use node_rules::{JoinRefusal, LeaveRefusal, RandomFault, RingRefusal};
-use plc_base::{EapBuf, Grant, Keeper, Out, Rand, Short};
+use plc_base::{EapBuf, Grant, Keeper, Out, RandomOctets, Short};
 
 impl<K: Keeper + Drop> Meter<K> {
     // Whether it has a ring.
@@ -25,7 +25,7 @@ impl<K: Keeper + Drop> Meter<K> {
     /// Takes a random value in, of which 8 are held at most.
     ///
     /// Halted; then RandomsFull exactly where 8 are held.
-    pub fn give_random(&mut self, value: Rand) -> Result<(), RandomFault>
+    pub fn give_random(&mut self, value: RandomOctets) -> Result<(), RandomFault>
         requires agrees { Agrees self.old.station }
         ensures halted { IfNone self.old.station.memory ((result ≡ Err RandomFault.Halted) × (self.new ≡ self.old)) }
         ensures carries { IfSome (node_of self.old).memory (λ m.

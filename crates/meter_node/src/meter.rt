@@ -7,7 +7,7 @@ ghost use Rattle.frame_counters.specs.PeerMarks.{peers};
 ghost use Rattle.routing_set.specs.RoutingSet.{ranks};
 ghost use Rattle.node_rules.specs.Memory as memory;
 ghost use Rattle.node_rules.specs.Meters as meters;
-ghost use Rattle.node_rules.specs.StoreReading.{memory_of};
+ghost use Rattle.node_rules.specs.RestartStates.{memory_of};
 ghost use Rattle.node_rules.specs.Agreement.{Agrees};
 ghost use Rattle.meter_node.specs.MeterCalls.{MeterAfter};
 ghost use Rattle.plc_station.specs.NextEnds.{IsFirstEnd};
@@ -15,7 +15,7 @@ ghost use Rattle.plc_station.specs.Sizes.{HasSizes};
 ghost use Rattle.meter_node.specs.MeterStates.{node_of};
 ghost use Rattle.meter_node.specs.Ends.{IsSooner};
 ghost use Rattle.meter_node.specs.Sessions.{session_of};
-ghost use Rattle.meter_node.specs.Reading.{read_answer, IsOpenFault};
+ghost use Rattle.meter_node.specs.OpenFaults.{read_answer, IsOpenFault};
 
 use crate::pair_key::PairKey;
 use crate::session::Session;

@@ -7,7 +7,7 @@ ghost use Rattle.eap_psk.specs.Tags.{first_tags, no_tags, third_tags};
 ghost use Rattle.node_rules.specs.Memory as memory;
 ghost use Rattle.node_rules.specs.Meters as meters;
 ghost use Rattle.meter_node.specs.MeterStates.{memory_with};
-ghost use Rattle.meter_node.specs.Hearing as hearing;
+ghost use Rattle.meter_node.specs.MeterAnswers as meter_answers;
 
 use crate::meter::Meter;
 use crate::session::SessionWay;
@@ -49,7 +49,7 @@ impl<K: Keeper + Drop> Meter<K> {
         eap: &mut EapBuf,
         tags: &mut TagList,
     ) -> Result<Peer, Dropped>
-        ensures exact { hearing.first_refusal self.now.randoms packet.now ≡ result_err result }
+        ensures exact { meter_answers.first_refusal self.now.randoms packet.now ≡ result_err result }
         ensures value { IfOk result (λ peer. slice_get self.now.randoms 0 ≡ Some peer.rand_p) }
         ensures peer { IfOk result (λ peer. peer ≡ peer_for self.now.station.eui peer.rand_p packet.now) }
         ensures written { IfOk result (λ peer. eap.new
@@ -75,8 +75,8 @@ impl<K: Keeper + Drop> Meter<K> {
         eap: &mut EapBuf,
         tags: &mut TagList,
     ) -> Result<TakenGrant, Dropped>
-        ensures exact { hearing.third_refusal (keys_of self.now.psk.0) self.now.session packet.now ≡ result_err result }
-        ensures peer { IfOk result (λ x. hearing.peer_in self.now.session ≡ Some x.peer) }
+        ensures exact { meter_answers.third_refusal (keys_of self.now.psk.0) self.now.session packet.now ≡ result_err result }
+        ensures peer { IfOk result (λ x. meter_answers.peer_in self.now.session ≡ Some x.peer) }
         ensures grant { IfOk result (λ x. granted_by (keys_of self.now.psk.0) x.peer packet.now ≡ Some x.grant) }
         ensures agreed { IfOk result (λ x. x.agreed ≡ agreed_by x.peer) }
         ensures written { IfOk result (λ x. eap.new

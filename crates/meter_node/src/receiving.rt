@@ -1,14 +1,14 @@
 //! A frame that comes: accepted by the station and heard in one call.
 ghost use Rattle.std.specs.Prelude.{◌≡◌, Err, IfNone, IfSome, IfOk, IsSome};
-ghost use Rattle.node_rules.specs.Accepting as accepting;
+ghost use Rattle.node_rules.specs.Acceptance as acceptance;
 ghost use Rattle.node_rules.specs.Agreement.{Agrees};
-ghost use Rattle.node_rules.specs.Carrying.{Carries, nothing};
+ghost use Rattle.node_rules.specs.CarriedPlans.{Carries, nothing};
 ghost use Rattle.node_rules.specs.Ciphers.{network};
 ghost use Rattle.node_rules.specs.Frames.{arrived};
 ghost use Rattle.node_rules.specs.Meters as meters;
 ghost use Rattle.node_rules.specs.NodeSteps.{of_station};
 ghost use Rattle.node_rules.specs.Receives.{Receives};
-ghost use Rattle.meter_node.specs.Hearing.{CameUp};
+ghost use Rattle.meter_node.specs.MeterAnswers.{CameUp};
 ghost use Rattle.meter_node.specs.MeterCalls.{MeterAfter};
 ghost use Rattle.meter_node.specs.MeterStates.{identity_of, node_of};
 
@@ -27,7 +27,7 @@ impl<K: Keeper + Drop> Meter<K> {
         requires agrees { Agrees self.old.station }
         ensures halted { IfNone self.old.station.memory ((result ≡ Err FrameRefusal.Halted) × (self.new ≡ self.old)) }
         ensures carries { IfSome self.old.station.memory (λ l. Carries self.old.station
-            (accepting.accept l self.old.station.eui (arrived network octets.now)) result nothing self.new.station) }
+            (acceptance.accept l self.old.station.eui (arrived network octets.now)) result nothing self.new.station) }
         ensures beside { self.new ≡ record self.old { station = self.new.station } }
         ensures running { IfOk result (λ _. IsSome self.new.station.memory) }
         ensures came { IfOk result (λ got. IfSome self.new.station.memory (CameUp got.path)) }
@@ -52,7 +52,7 @@ impl<K: Keeper + Drop> Meter<K> {
         requires agrees { Agrees self.old.station }
         ensures halted { IfNone self.old.station.memory ((result ≡ Err Unheard.Halted) × (out.new ≡ nothing) × (self.new ≡ self.old)) }
         ensures received { IfSome (node_of self.old).memory (λ m. Receives
-            (of_station m (accepting.accept m.station self.old.station.eui (arrived network octets.now)))
+            (of_station m (acceptance.accept m.station self.old.station.eui (arrived network octets.now)))
             (λ got k. meters.hear_meter (identity_of self.old) k got came.cost came.note came.time)
             (node_of self.old) result out.new (node_of self.new)) }
         ensures after { MeterAfter self.old self.new }

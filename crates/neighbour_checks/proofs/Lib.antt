@@ -1,4 +1,4 @@
 pub mod Histories
-mod Holding
-mod Acknowledging
+mod DistinctNeighbours
+mod AckSpellings
 mod WorkedHistories

@@ -69,7 +69,7 @@ impl Checks {
 
     /// A route reply with this number and origin was sent to a neighbour, at a time in seconds. It begins a check exactly where
     /// the neighbour has no open check and is not listed, and fewer than 64 neighbours are open or listed.
-    pub fn sent(&mut self, neighbour: Short, number: u16, origin: Short, now: u64)
+    pub fn reply_sent(&mut self, neighbour: Short, number: u16, origin: Short, now: u64)
         ensures value { self.new ≡ sent_after self.old neighbour number origin now }
         ensures history { LeadsOn self.old (Reply neighbour number origin now) self.new }
     {

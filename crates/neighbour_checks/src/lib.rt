@@ -2,7 +2,7 @@
 //! within [`CHECK_TIME`] is listed for [`LISTED_TIME`], and its route requests are not believed. The layout of octets and the
 //! times are this network's own.
 //!
-//! - [`Checks`]: `sent` for each route reply that goes out, `acked` for each acknowledgement that comes, `tick` at a time in seconds. `listed`
+//! - [`Checks`]: `reply_sent` for each route reply that goes out, `acked` for each acknowledgement that comes, `tick` at a time in seconds. `listed`
 //!   says whether a neighbour's route requests are believed; `clear` forgets all, as a restart does.
 //! - [`read_ack`] and [`write_ack`] read and write the body of a command 03: the number and the origin of the reply.
 //!

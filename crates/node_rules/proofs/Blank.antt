@@ -3,7 +3,7 @@ use Rattle.std.proofs.Common.{◌≡◌, [], replicate, Some, None, Ok, refl, ap
 use Rattle.std.specs.Ordering.{nat_cmp}
 use Rattle.std.specs.FinMap.{get, empty, get-empty}
 use Rattle.store_tables.specs.SlotTables as slots
-use Rattle.store_tables.proofs.Opening.{opened_from-empty}
+use Rattle.store_tables.proofs.OpenedTables.{opened_from-empty}
 use Rattle.frame_counters.specs.SendCounter as counter
 use Rattle.frame_counters.specs.PeerMarks as marks
 use Rattle.group_keys.specs.KeyRing as ring
@@ -11,7 +11,7 @@ use Rattle.group_keys.specs.KeyBook as book
 use Rattle.routing_set.specs.RoutingSet as routing
 use Rattle.routing_set.specs.OwnNumber as own_number
 use Rattle.node_rules.specs.Memory.{Coordinator, Meter}
-use Rattle.node_rules.specs.StoreReading.{station_of, tag_in, blank_station, blank_routing}
+use Rattle.node_rules.specs.RestartStates.{station_of, tag_in, blank_station, blank_routing}
 use Rattle.node_rules.specs.Laws.{AnEmptyStoreIsBlank}
 
 no_entries : {A : Type 0} (layout : slots.Layout A) → slots.opened layout empty ≡ Ok []

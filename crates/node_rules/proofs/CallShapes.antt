@@ -24,7 +24,7 @@ use Rattle.node_rules.specs.declared.refusal.SendRefusal.TheVariants as sends
 use Rattle.node_rules.specs.Frames.{Arrived}
 use Rattle.node_rules.specs.Memory.{StationMemory, address_of, Datagram, Command}
 use Rattle.node_rules.specs.Plans.{resting}
-use Rattle.node_rules.specs.Accepting.{is_own, Accepting, refuse, marking, admitted, open_sealed, with_key, is_for_me, accept_head, accept}
+use Rattle.node_rules.specs.Acceptance.{is_own, Accepting, refuse, marking, admitted, open_sealed, with_key, is_for_me, accept_head, accept}
 use Rattle.node_rules.specs.Drafts.{Draft, alone, empty_draft, refused, sets_out, with_next_tag, lack}
 use Rattle.node_rules.specs.Calls.{Sending, sending_ends, send_from, send, command_from, send_command, tag_taken, send_fault, how, lacking}
 use Rattle.node_rules.specs.Laws.{RefusesCleanly, IsMark, MarksAtMost, OnlyMarks, AcceptingOnlyMarks}

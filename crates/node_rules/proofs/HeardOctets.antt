@@ -4,15 +4,15 @@ use Rattle.std.specs.Prelude.{if◌then◌else◌, nat_lt, ◌==◌, IfSome}
 use Rattle.std.specs.Option.{option_map_or}
 use Rattle.std.proofs.lemmas.Option.{same_Some}
 use Rattle.plc_base.specs.Fields.{AreOctets}
-use Rattle.fragment_buffers.specs.Taking as pieces
+use Rattle.fragment_buffers.specs.PieceIntake as pieces
 use Rattle.loadng_messages.specs.declared.message.Message.{Message}
 use Rattle.loadng_messages.specs.declared.message.Message.TheVariants.{Rreq, Rrep, Rerr}
-use Rattle.loadng_messages.specs.Reading.{message_in}
+use Rattle.loadng_messages.specs.Reader.{message_in}
 use Rattle.mesh_header.specs.declared.unit.Mesh.{Mesh}
 use Rattle.mesh_header.specs.declared.unit.Unit.{Unit as MeshUnit}
 use Rattle.mesh_header.specs.declared.unit.Unit.TheVariants as units
 use Rattle.mesh_header.specs.Grammar.{IsUnit}
-use Rattle.mesh_header.specs.Reading.{unit_in}
+use Rattle.mesh_header.specs.Reader.{unit_in}
 use Rattle.mesh_header.specs.Laws.{HasOctets}
 use Rattle.mesh_header.proofs.Readings.{unit_spelled}
 use Rattle.mesh_header.proofs.UnitOctets.{read_octets}
@@ -26,8 +26,9 @@ use Rattle.node_rules.specs.declared.refusal.Dropped.TheVariants.{BadUnit}
 use Rattle.node_rules.specs.Memory.{StationMemory, address_of, next_hop}
 use Rattle.node_rules.specs.Plans.{resting}
 use Rattle.node_rules.specs.Drafts.{Draft, alone, sealed, sealing, checked, choose, counters_left}
-use Rattle.node_rules.specs.Hearing.{Hearing, dropped, drop_it, ends, rank_over, hear_reply_for, report_by, forward_by, gathered, hear_message, hear_message_in}
-use Rattle.node_rules.specs.Hearing.{hear_over_mesh, hear_sealed, is_joining, hear_plain, hear_unit, hear_unit_in, hear}
+use Rattle.node_rules.specs.HearingRules.{Hearing, dropped, drop_it, ends, rank_over, hear_reply_for, report_by, forward_by, gathered, hear_message}
+use Rattle.node_rules.specs.HearingRules.{hear_message_in}
+use Rattle.node_rules.specs.HearingRules.{hear_over_mesh, hear_sealed, is_joining, hear_plain, hear_unit, hear_unit_in, hear}
 use Rattle.node_rules.specs.MemoryDrafts.{Unread, unread}
 use Rattle.node_rules.specs.OctetLaws.{WayFits, UnreadFits, UnreadsAreOctets}
 

@@ -1,8 +1,8 @@
-pub mod Writing
-pub mod Composing
+pub mod FailedWrites
+pub mod ComposedPlans
 pub mod OwnAnswers
 pub mod Unread
-pub mod Halting
+pub mod HaltedNodes
 pub mod Sizes
 pub mod Words
 pub mod TablePuts

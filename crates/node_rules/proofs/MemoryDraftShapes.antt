@@ -5,7 +5,7 @@ use Rattle.node_rules.specs.declared.refusal.Dropped.{Dropped}
 use Rattle.node_rules.specs.Memory.{StationMemory, Memory}
 use Rattle.node_rules.specs.Plans.{Plan, resting, within}
 use Rattle.node_rules.specs.Drafts.{Draft, Ends}
-use Rattle.node_rules.specs.Hearing.{dropped}
+use Rattle.node_rules.specs.HearingRules.{dropped}
 use Rattle.node_rules.specs.MemoryDrafts.{with_station, in_memory}
 use Rattle.node_rules.proofs.Shapes.{Shape, Rests, Keeps, Ended}
 use Rattle.node_rules.proofs.Words.{of_station_done}

@@ -6,7 +6,7 @@ use Rattle.plc_base.specs.declared.fields.Fault.{Fault}
 use Rattle.plc_base.specs.Fields.{AreOctets}
 use Rattle.mac_frames.specs.declared.fault.FrameFaultKind.{FrameFaultKind}
 use Rattle.mac_frames.specs.Faults.{frame_fault}
-use Rattle.mac_frames.specs.Reading.{head_in, body_in}
+use Rattle.mac_frames.specs.Reader.{head_in, body_in}
 use Rattle.mac_frames.proofs.FrameOctets.{body_octets, opened_octets}
 use Rattle.mac_frames.proofs.OpensAgain.{bodies_open, bodies_longer}
 use Rattle.node_rules.specs.Ciphers.{OpensWhatItSeals, network}

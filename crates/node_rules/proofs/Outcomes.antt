@@ -8,8 +8,8 @@ use Rattle.store_tables.specs.Writes.{IsCutBy, write}
 use Rattle.store_tables.proofs.WritesLemmas.{cut_of}
 use Rattle.node_rules.specs.Plans.{Plan, Outcome, carry_out, outcome_of, finished, halted}
 use Rattle.node_rules.specs.States.{State}
-use Rattle.node_rules.specs.Carrying.{Carries}
-use Rattle.node_rules.specs.Carrying.{Shows, IsCarriedOut}
+use Rattle.node_rules.specs.CarriedPlans.{Carries}
+use Rattle.node_rules.specs.CarriedPlans.{Shows, IsCarriedOut}
 
 known_first : (P Q : Option Cut → Type 0) (o : Option (Option Cut)) → IfSome o (λ c. P c × Q c) → IfSome o P
 known_first P Q None h = tt

@@ -7,7 +7,7 @@ use Rattle.loadng_messages.specs.declared.message.Message.{Message}
 use Rattle.loadng_messages.specs.declared.message.Message.TheVariants.{Rreq, Rrep, Rerr}
 use Rattle.routing_set.specs.declared.rank.Rank.{Rank}
 use Rattle.fragment_buffers.specs.Reassembly.{Reassembly}
-use Rattle.fragment_buffers.specs.Taking as pieces
+use Rattle.fragment_buffers.specs.PieceIntake as pieces
 use Rattle.node_rules.specs.declared.heard.Heard.{Heard}
 use Rattle.node_rules.specs.declared.heard.Heard.TheVariants as heard
 use Rattle.node_rules.specs.declared.refusal.Dropped.{Dropped}
@@ -15,8 +15,8 @@ use Rattle.node_rules.specs.declared.refusal.Dropped.TheVariants.{Store}
 use Rattle.node_rules.specs.Memory.{StationMemory, next_hop}
 use Rattle.node_rules.specs.Plans.{resting}
 use Rattle.node_rules.specs.Drafts.{Draft, alone, refused, sealing, sealed, checked, choose}
-use Rattle.node_rules.specs.Hearing.{Hearing, dropped, hear_request, hear_reply_for, hear_reply, hear_error, forward_by, forward, report_by, gathered}
-use Rattle.node_rules.specs.Hearing.{hear_message, hear_message_in}
+use Rattle.node_rules.specs.HearingRules.{Hearing, dropped, hear_request, hear_reply_for, hear_reply, hear_error, forward_by, forward, report_by, gathered}
+use Rattle.node_rules.specs.HearingRules.{hear_message, hear_message_in}
 
 -- an answer that hands nothing on unread
 abbrev pub IsOwn : Heard → Type 0

@@ -5,10 +5,10 @@ use Rattle.std.specs.Option.{option_map_or, option_and_then}
 use Rattle.std.proofs.lemmas.List.{length-append}
 use Rattle.mesh_header.specs.declared.unit.Unit.{Unit as MeshUnit}
 use Rattle.mesh_header.specs.declared.unit.Unit.TheVariants as units
-use Rattle.mesh_header.specs.Reading.{unit_in}
+use Rattle.mesh_header.specs.Reader.{unit_in}
 use Rattle.loadng_messages.specs.declared.message.Message.{Message}
 use Rattle.loadng_messages.specs.declared.message.Message.TheVariants.{Rrep}
-use Rattle.loadng_messages.specs.Reading.{message_in}
+use Rattle.loadng_messages.specs.Reader.{message_in}
 use Rattle.routing_set.specs.declared.rank.Rank.{Rank}
 use Rattle.node_rules.specs.declared.heard.Path.{Path}
 use Rattle.node_rules.specs.declared.heard.Path.TheVariants as paths
@@ -17,8 +17,8 @@ use Rattle.node_rules.specs.declared.refusal.Dropped.TheVariants.{BadUnit}
 use Rattle.node_rules.specs.Memory.{StationMemory, address_of, next_hop}
 use Rattle.node_rules.specs.Plans.{resting}
 use Rattle.node_rules.specs.Drafts.{alone, choose, empty_draft, with_rank, leave, sealed_by}
-use Rattle.node_rules.specs.Hearing.{Hearing, dropped, drop_it, hear_reply, hear_reply_for, hear_message, hear_message_in, hear_sealed}
-use Rattle.node_rules.specs.Hearing.{hear_plain, is_joining, hear_unit_in, hear, rank_over}
+use Rattle.node_rules.specs.HearingRules.{Hearing, dropped, drop_it, hear_reply, hear_reply_for, hear_message, hear_message_in, hear_sealed}
+use Rattle.node_rules.specs.HearingRules.{hear_plain, is_joining, hear_unit_in, hear, rank_over}
 use Rattle.node_rules.specs.Laws.{WaitingFits, RepliesAreFew, AMetersRepliesAreFew, ACoordinatorsRepliesAreFew}
 use Rattle.node_rules.specs.Meters as meters
 use Rattle.node_rules.specs.Coordinators as coordinator_rules

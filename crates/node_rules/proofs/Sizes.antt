@@ -1,7 +1,7 @@
 -- How many units the bodies that wait are.
 use Rattle.std.proofs.Common.{ℕ, ◌≤◌}
 pub use Rattle.fragment_buffers.specs.Loads.{units_in}
-pub use Rattle.fragment_buffers.specs.Waiting.{pending_in}
+pub use Rattle.fragment_buffers.specs.WaitingBodies.{pending_in}
 pub use Rattle.fragment_buffers.proofs.Sizes.{length-units_of, length-all_go, leaving_units, load_bound}
 use Rattle.fragment_buffers.proofs.Sizes.{few_pending}
 use Rattle.node_rules.specs.Memory.{StationMemory}

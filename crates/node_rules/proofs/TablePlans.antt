@@ -2,7 +2,7 @@
 use Rattle.std.proofs.Common.{ℕ, Bool, true, false, List, [], length, Option, Some, None, Result, Ok, Err, arith}
 use Rattle.std.specs.Prelude.{is_some}
 use Rattle.std.proofs.lemmas.List.Elements.{All-nil, All-cons}
-use Rattle.plc_base.specs.declared.key.Rand.{Rand}
+use Rattle.plc_base.specs.declared.key.RandomOctets.{RandomOctets}
 use Rattle.plc_base.specs.Grant.{Granted}
 use Rattle.plc_base.specs.Keeper.{Write}
 use Rattle.frame_counters.specs.SendCounter as counter
@@ -13,7 +13,7 @@ use Rattle.group_keys.specs.KeyRing as ring
 use Rattle.routing_set.specs.OwnNumber as own_number
 use Rattle.node_rules.specs.Memory.{StationMemory, Memory}
 use Rattle.node_rules.specs.Plans.{Plan, resting, within}
-use Rattle.node_rules.specs.Accepting.{Accepting, marking}
+use Rattle.node_rules.specs.Acceptance.{Accepting, marking}
 use Rattle.node_rules.specs.Drafts.{Draft, StationPlace, Ends, alone, empty_draft, with_rank, with_ring, choose}
 use Rattle.node_rules.specs.MemoryDrafts.{in_memory, with_station, with_memory_by, given_ends, give_random}
 use Rattle.node_rules.specs.Calls as calls
@@ -120,7 +120,7 @@ stations l b short = record {
 
 -- # What a meter and the coordinator do
 
-pub random_puts : (m : Memory) (value : Rand) → AreOf AnyMembership m.book m.station (give_random m value).puts
+pub random_puts : (m : Memory) (value : RandomOctets) → AreOf AnyMembership m.book m.station (give_random m value).puts
 random_puts m value =
     plan_puts {H = Unit {0}} AnyMembership m.book m.station in_memory given_ends m _
     (choose_shape in_memory given_ends m (Does AnyMembership m.book m.station) _ _ _ (Rests _)

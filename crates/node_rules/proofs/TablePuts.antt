@@ -15,13 +15,13 @@ use Rattle.store_tables.specs.NumberSlots.{number_write}
 use Rattle.store_tables.specs.SlotTables as slots
 use Rattle.store_tables.specs.Writes.{puts_of}
 use Rattle.fragment_buffers.specs.NextTag.{tag_at}
-use Rattle.frame_counters.specs.PeerMarks.{Peer}
+use Rattle.frame_counters.specs.PeerMarks.{PeerMark}
 use Rattle.frame_counters.specs.PeerMarks as marks
 use Rattle.frame_counters.specs.SendCounter as counter
 use Rattle.group_keys.specs.declared.key_book.BookEntry.{BookEntry}
 use Rattle.group_keys.specs.KeyBook as book
 use Rattle.group_keys.specs.KeyRing as ring
-use Rattle.group_keys.proofs.Leading.{has_entry}
+use Rattle.group_keys.proofs.EntryPuts.{has_entry}
 use Rattle.joining_messages.specs.declared.message.JoinMessage.{JoinMessage}
 use Rattle.mesh_header.specs.declared.unit.Unit.{Unit as MeshUnit}
 use Rattle.routing_set.specs.declared.entry.RoutingEntry.{RoutingEntry}
@@ -32,7 +32,7 @@ use Rattle.node_rules.specs.Memory.{StationMemory, Load, Command, Memory, Coordi
 use Rattle.node_rules.specs.Drafts.{Draft, empty_draft, tag_after, with_rank, with_own_number, with_next_tag, with_ring, with_routing_by, goes, body_goes}
 use Rattle.node_rules.specs.Drafts.{is_awaited, waits, seeks, seeks_once, sets_out, leave}
 use Rattle.node_rules.specs.MemoryDrafts.{on_station, station_part, with_memory_by, with_pair_tags, goes_up, goes_down, is_commanded}
-use Rattle.node_rules.specs.Joining.{command_of}
+use Rattle.node_rules.specs.JoiningPackets.{command_of}
 use Rattle.node_rules.specs.Calls.{idled}
 use Rattle.node_rules.specs.Coordinators.{with_book_entry, with_session}
 use Rattle.node_rules.proofs.Words.{IsDone, Fits, begun_fits, learns_done, sends_on_done, answers_done, goes_done, error_done, error_on_done, on_ring}
@@ -49,7 +49,7 @@ pub data PutOf (R : Membership → Type 0) (b : book.Book) (l : StationMemory) :
   OfFloors : (floors : List ℕ) → PutOf R b l (routing.floors_write floors)
   OfNumber : (at : NumberSlot) (number : ℕ) → 2 ≤ at.slot → at.slot ≤ 4 → PutOf R b l (number_write at number)
   OfRing : (r : ring.Ring) → R (RingOf r) → PutOf R b l (record { slot = ring.ring_slot; octets = ring.ring_octets r })
-  OfMark : (place : ℕ) (peer : Peer) → place ≤ length l.marks → PutOf R b l (slots.entry_write marks.peers place peer)
+  OfMark : (place : ℕ) (peer : PeerMark) → place ≤ length l.marks → PutOf R b l (slots.entry_write marks.peers place peer)
   OfRank : (place : ℕ) (e : RoutingEntry) → place ≤ length l.routing.entries → PutOf R b l (slots.entry_write routing.ranks place e)
   OfEntry : (place : ℕ) (e : BookEntry) → place ≤ length b → R (EntryOf e) → PutOf R b l (slots.entry_write book.entries place e)
 

@@ -12,7 +12,7 @@ use Rattle.plc_base.specs.Keeper.{Records, Store, Write, Puts, succeeds, cut_aft
 use Rattle.store_tables.specs.Writes.{Writes, Wrote, Written, write}
 use Rattle.store_tables.specs.SlotTables as slots
 use Rattle.store_tables.proofs.StoreLemmas.{get-insert_same, get-insert_other}
-use Rattle.store_tables.proofs.Opening.{stored_gapless}
+use Rattle.store_tables.proofs.OpenedTables.{stored_gapless}
 use Rattle.frame_counters.specs.PeerMarks as marks
 use Rattle.group_keys.specs.KeyBook as book
 use Rattle.routing_set.specs.RoutingSet as routing
@@ -73,7 +73,7 @@ module _ (Q : Records → Type 0) where
 
 -- # One table
 
--- No record stands after the first empty slot, and each of the first places, of which there are so many, has one.
+-- No record stands after the first empty slot, and each of the first places, of which there are this many, has one.
 record Holds {A : Type 0} (layout : slots.Layout A) (count : ℕ) (r : Records) : Type 0 where
   gapless : slots.IsGapless layout r
   filled : (i : ℕ) → i < count → i < layout.slots → get r (slots.slot_of layout i) ≢ None

@@ -6,8 +6,8 @@ use Rattle.plc_base.specs.Grant.{Granted}
 use Rattle.group_keys.specs.KeyRing.{Ring}
 use Rattle.mesh_header.specs.declared.unit.Unit.{Unit as MeshUnit}
 use Rattle.mesh_header.specs.declared.unit.Unit.TheVariants as units
-use Rattle.mesh_header.specs.Reading.{unit_in}
-use Rattle.loadng_messages.specs.Reading.{message_in}
+use Rattle.mesh_header.specs.Reader.{unit_in}
+use Rattle.loadng_messages.specs.Reader.{message_in}
 use Rattle.node_rules.specs.Accepted.{Accepted}
 use Rattle.node_rules.specs.declared.heard.Path.{Path}
 use Rattle.node_rules.specs.declared.heard.Path.TheVariants as paths
@@ -20,8 +20,8 @@ use Rattle.node_rules.specs.declared.refusal.Dropped.TheVariants.{BadUnit, Store
 use Rattle.node_rules.specs.Memory.{StationMemory}
 use Rattle.node_rules.specs.Plans.{resting}
 use Rattle.node_rules.specs.Drafts.{choose}
-use Rattle.node_rules.specs.Hearing.{Hearing, drop_it, hear_command, hear_over_mesh, hear_sealed, hear_plain, is_joining, hear_unit, hear_unit_in, hear}
-use Rattle.node_rules.specs.Composing.{ComesSo}
+use Rattle.node_rules.specs.HearingRules.{Hearing, drop_it, hear_command, hear_over_mesh, hear_sealed, hear_plain, is_joining, hear_unit, hear_unit_in, hear}
+use Rattle.node_rules.specs.ComposedPlans.{ComesSo}
 use Rattle.node_rules.proofs.OwnAnswers.{Own, ByAnswer, choose_own, refused_own, resting_own, forward_own, gathered_own, message_in_own}
 
 module _ (l : StationMemory) where

@@ -24,7 +24,7 @@ use Rattle.node_rules.specs.Memory.{StationMemory, Load, Command, Memory, addres
 use Rattle.node_rules.specs.Drafts.{Draft, empty_draft, with_rank, with_own_number, with_next_tag, with_ring, with_routing_by, goes, units_of, all_go}
 use Rattle.node_rules.specs.Drafts.{body_goes, is_awaited, waits, seeks, seeks_once, sets_out, leave}
 use Rattle.node_rules.specs.MemoryDrafts.{with_station, on_station, station_part, with_memory_by, with_pair_tags, goes_up, goes_down, is_commanded}
-use Rattle.node_rules.specs.Joining.{command_of}
+use Rattle.node_rules.specs.JoiningPackets.{command_of}
 use Rattle.node_rules.specs.Calls.{idled}
 use Rattle.node_rules.specs.Coordinators.{with_book_entry}
 use Rattle.node_rules.specs.Laws.{turn_of, InTurnFrom}
@@ -102,7 +102,7 @@ entry_turn b e = by_holding (book.holds b e)
 
 -- # What a doing adds at most
 
--- So many units and plain frames more than what waits, and writes up to a turn.
+-- This many units and plain frames more than what waits, and writes up to a turn.
 pub record Fits {M : Type 0} (l : StationMemory) (more last : ℕ) (d : Draft M) : Type 0 where
   pub count : length d.units + length d.plain ≤ pending l + more
   pub turns : InTurn 0 last d.puts

@@ -8,7 +8,7 @@ use Rattle.group_keys.specs.KeyRing as ring
 use Rattle.routing_set.specs.RoutingSet as routing
 use Rattle.routing_set.specs.OwnNumber as own_number
 use Rattle.node_rules.specs.Memory.{StationMemory}
-use Rattle.node_rules.specs.StoreReading.{tag_in}
+use Rattle.node_rules.specs.RestartStates.{tag_in}
 use Rattle.node_rules.specs.Drafts.{tag_slot}
 use Rattle.node_rules.specs.States.{State}
 

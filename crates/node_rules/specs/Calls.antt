@@ -12,9 +12,9 @@ use Rattle.group_keys.specs.KeyRing as ring
 use Rattle.routing_set.specs.declared.rank.Rank.{Rank}
 use Rattle.routing_set.specs.RoutingSet as routing
 use Rattle.routing_set.specs.OwnNumber as own_number
-use Rattle.fragment_buffers.specs.Taking as pieces
+use Rattle.fragment_buffers.specs.PieceIntake as pieces
 pub use Rattle.plc_base.specs.Times.{is_within}
-use Rattle.fragment_buffers.specs.Waiting.{still_waiting}
+use Rattle.fragment_buffers.specs.WaitingBodies.{still_waiting}
 use Rattle.node_rules.specs.declared.heard.SentHow.{SentHow}
 use Rattle.node_rules.specs.declared.heard.SentHow.TheVariants.{Sent, Waiting}
 use Rattle.node_rules.specs.declared.refusal.SendRefusal.{SendRefusal}
@@ -23,7 +23,7 @@ use Rattle.node_rules.specs.declared.refusal.PresetFault.{PresetFault}
 use Rattle.node_rules.specs.declared.refusal.PresetFault.TheVariants as presets
 use Rattle.node_rules.specs.Memory.{StationMemory, Datagram, Command, address_of, next_hop}
 use Rattle.node_rules.specs.Plans.{Plan, resting}
-use Rattle.node_rules.specs.Accepting.{is_own}
+use Rattle.node_rules.specs.Acceptance.{is_own}
 use Rattle.node_rules.specs.Drafts.{Draft, Ends, Lack, OfRoom, OfNumbers, alone, empty_draft, with_rank, with_ring, with_next_tag, sets_out, lack, is_awaited}
 use Rattle.node_rules.specs.Drafts.{counters_left, refused, sealing, sealed, checked, choose}
 
@@ -88,7 +88,7 @@ send_command l to octets now =
 abbrev pub command_frames : StationMemory → ℕ → ℕ
 command_frames l to = if is_some (next_hop l to) then 1 else (if is_awaited l to then 0 else 1)
 
--- what a command of so many octets for an address lacks, its counters among it, in the words of an answer
+-- what a command of this many octets for an address lacks, its counters among it, in the words of an answer
 abbrev pub command_fault : {E : Type 0} → Ends E → (Lack → E) → StationMemory → (to octets : ℕ) → Option E
 command_fault ends word l to octets =
     option_map word (lack l to octets)
@@ -98,7 +98,7 @@ command_fault ends word l to octets =
 abbrev pub room_fault : StationMemory → ℕ → ℕ → Option SendRefusal
 room_fault = command_fault sending_ends lacking
 
--- what a command of so many octets for an address would be refused for
+-- what a command of this many octets for an address would be refused for
 abbrev pub room : StationMemory → ℕ → ℕ → Option SendRefusal
 room l to octets = option_map_or (λ _. room_fault l to octets) (address_of l) (Some NotJoined)
 

@@ -1,11 +1,11 @@
 -- What frames and the packets of a joining are made with.
 use Rattle.std.specs.Prelude.{◌≡◌, ℕ, ◌+◌, List, length, Option, Some}
 use Rattle.plc_base.specs.declared.key.Key.{Key}
-use Rattle.plc_base.specs.declared.key.Rand.{Rand}
+use Rattle.plc_base.specs.declared.key.RandomOctets.{RandomOctets}
 use Rattle.plc_base.specs.Grant.{Granted}
 use Rattle.mac_frames.specs.declared.head.MacHead.{MacHead}
 use Rattle.mac_frames.specs.Grammar.{header}
-use Rattle.mac_frames.specs.Sealing.{opened_in}
+use Rattle.mac_frames.specs.SealedFrames.{opened_in}
 use Rattle.mac_frames.specs.Sent.{sealed_body}
 use Rattle.eap_psk.specs.Keys.{keys_of}
 use Rattle.eap_psk.specs.Sessions as sessions
@@ -19,18 +19,18 @@ use Rattle.eap_psk.specs.declared.peer.Peer.{Peer}
 pub record Ciphers : Type 0 where
   -- the body of a sealed frame: by key, head and payload
   pub seals : Key → MacHead → List ℕ → List ℕ
-  -- the payload of a body, where its tag is right: by key, head, the octets in front of the body, and the body
+  -- the payload of a body, where its tag is right: by key, head, the octets before the body, and the body
   pub opens : Key → MacHead → List ℕ → List ℕ → Option (List ℕ)
   -- the second packet: by pair key, identifier and peer
   pub second : Key → ℕ → Peer → List ℕ
   -- the third: by pair key, server, the RAND_P that it took, and the grant
-  pub third : Key → Server → Rand → Granted → List ℕ
+  pub third : Key → Server → RandomOctets → Granted → List ℕ
   -- the fourth: by pair key, identifier and peer
   pub fourth : Key → ℕ → Peer → List ℕ
   -- the first fault of each, at the end that takes it
   pub second_fault : Key → Server → List ℕ → Option EapFault
   pub third_fault : Key → Peer → List ℕ → Option EapFault
-  pub fourth_fault : Key → Server → Rand → List ℕ → Option EapFault
+  pub fourth_fault : Key → Server → RandomOctets → List ℕ → Option EapFault
   -- the grant in a third packet without a fault
   pub granted : Key → Peer → List ℕ → Option Granted
 

@@ -6,7 +6,7 @@ use Rattle.std.specs.Option.{option_map, option_map_or, option_and_then}
 use Rattle.plc_base.specs.Faults.{◌then◌, ◌when◌}
 use Rattle.plc_base.specs.declared.address.Eui.{Eui}
 use Rattle.plc_base.specs.declared.key.Key.{Key}
-use Rattle.plc_base.specs.declared.key.Rand.{Rand}
+use Rattle.plc_base.specs.declared.key.RandomOctets.{RandomOctets}
 use Rattle.plc_base.specs.Grant.{Granted}
 use Rattle.store_tables.specs.Writes.{puts_of}
 use Rattle.node_rules.specs.declared.refusal.RingRefusal.{RingRefusal}
@@ -17,7 +17,7 @@ use Rattle.group_keys.specs.KeyBook as book
 use Rattle.joining_messages.specs.declared.message.JoinMessage.{JoinMessage}
 use Rattle.joining_messages.specs.declared.message.JoinBody.{JoinBody}
 use Rattle.joining_messages.specs.declared.message.JoinBody.TheVariants as body
-use Rattle.joining_messages.specs.Reading.{join_in}
+use Rattle.joining_messages.specs.Reader.{join_in}
 use Rattle.eap_psk.specs.Messages.{granting_text}
 use Rattle.eap_psk.specs.Tags.{mac_p_tag, mac_s_tag, granting_tag, success_tag}
 use Rattle.eap_psk.specs.declared.server.Server.{Server}
@@ -34,11 +34,11 @@ use Rattle.node_rules.specs.declared.refusal.CoordinatorRefusal.TheVariants as r
 use Rattle.node_rules.specs.Ciphers.{Ciphers}
 use Rattle.node_rules.specs.Memory.{StationMemory, Memory, CoordinatorSession, next_hop}
 use Rattle.node_rules.specs.Plans.{Plan, resting, within}
-use Rattle.node_rules.specs.Accepting.{same_eui}
+use Rattle.node_rules.specs.Acceptance.{same_eui}
 use Rattle.node_rules.specs.Drafts.{Draft, Ends, Lack, OfRoom, OfNumbers, empty_draft, counters_left, refused, sealing, sealed, checked, choose}
-use Rattle.node_rules.specs.Hearing.{dropped, hear}
+use Rattle.node_rules.specs.HearingRules.{dropped, hear}
 use Rattle.node_rules.specs.Calls as calls
-use Rattle.node_rules.specs.Joining.{first_packet, server_for, server_agrees, message, command_of}
+use Rattle.node_rules.specs.JoiningPackets.{first_packet, server_for, server_agrees, message, command_of}
 use Rattle.eap_psk.specs.Sessions.{rand_p_in}
 use Rattle.node_rules.specs.MemoryDrafts.{with_station, in_memory, on_station, with_memory_by, with_pair_tags, goes_down, is_commanded, command_lack, oldest}
 use Rattle.node_rules.specs.MemoryDrafts.{without_oldest, Unread, unread, packet_fault}
@@ -157,7 +157,7 @@ join_without_packet own m way eui now =
 -- # JOIN with a packet
 
 -- the second packet: the grant's keys are noted as issued, and the third packet goes the session's way
-abbrev pub keys_for : CoordinatorIdentity → Memory → CoordinatorSession → BookEntry → Rand → Granted → ℕ → Hearing
+abbrev pub keys_for : CoordinatorIdentity → Memory → CoordinatorSession → BookEntry → RandomOctets → Granted → ℕ → Hearing
 keys_for own m s e rand_p granted now =
     let join = message s.server.eui (body.Challenge (own.ciphers.third e.psk s.server rand_p granted)) in
     checked dropped m (say_lack m s.way join)
@@ -178,7 +178,7 @@ take_second own m s e packet now =
     (drop_it m drops.NotAllowed))
 
 -- the fourth packet: the session ends, and the acceptance goes its way
-abbrev pub accepts : Memory → CoordinatorSession → Rand → ℕ → Hearing
+abbrev pub accepts : Memory → CoordinatorSession → RandomOctets → ℕ → Hearing
 accepts m s rand_p now =
     let join = message s.server.eui (body.Accept 2) in
     checked dropped m (say_lack m s.way join)
@@ -189,7 +189,7 @@ accepts m s rand_p now =
     (heard.Done s.server.eui (server_agrees s.server rand_p)))
 
 -- the fourth packet is refused by its first fault, and accepted else
-abbrev pub take_fourth : CoordinatorIdentity → Memory → CoordinatorSession → BookEntry → List ℕ → Rand → ℕ → Hearing
+abbrev pub take_fourth : CoordinatorIdentity → Memory → CoordinatorSession → BookEntry → List ℕ → RandomOctets → ℕ → Hearing
 take_fourth own m s e packet rand_p now =
     checked dropped m (option_map packet_fault (own.ciphers.fourth_fault e.psk s.server rand_p packet))
     (accepts m s rand_p now)

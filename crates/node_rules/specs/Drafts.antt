@@ -14,8 +14,8 @@ use Rattle.routing_set.specs.declared.rank.Rank.{Rank}
 use Rattle.routing_set.specs.RoutingSet as routing
 use Rattle.routing_set.specs.OwnNumber as own_number
 pub use Rattle.fragment_buffers.specs.Loads.{UnsealedUnit, own_mesh, units_of, all_go}
-pub use Rattle.fragment_buffers.specs.Waiting.{waits_for}
-use Rattle.fragment_buffers.specs.Waiting.{is_awaited_in, waiting_blocks, no_room_in}
+pub use Rattle.fragment_buffers.specs.WaitingBodies.{waits_for}
+use Rattle.fragment_buffers.specs.WaitingBodies.{is_awaited_in, waiting_blocks, no_room_in}
 pub use Rattle.fragment_buffers.specs.NextTag.{tag_slot, tag_after, tag_write}
 use Rattle.mesh_header.specs.declared.unit.Unit.{Unit}
 use Rattle.mesh_header.specs.declared.unit.Unit.TheVariants.{Local}
@@ -141,7 +141,7 @@ pub data Lack : Type 0 where
 abbrev pub blocks_waiting : StationMemory → ℕ
 blocks_waiting l = waiting_blocks l.waiting
 
--- whether a body of so many octets more can't wait: 8 bodies wait, or their blocks pass 80
+-- whether a body of this many octets more can't wait: 8 bodies wait, or their blocks pass 80
 abbrev pub no_room : StationMemory → ℕ → Bool
 no_room l octets = no_room_in l.waiting octets
 
@@ -149,7 +149,7 @@ no_room l octets = no_room_in l.waiting octets
 abbrev pub numbers_spent : StationMemory → Bool
 numbers_spent l = own_number.is_spent l.own_number
 
--- what a body of so many octets for an address lacks, if it lacks something: with a route nothing
+-- what a body of this many octets for an address lacks, if it lacks something: with a route nothing
 unfoldable pub lack : StationMemory → ℕ → ℕ → Option Lack
 lack l to octets =
     if is_some (next_hop l to) then None
@@ -195,7 +195,7 @@ pub record StationPlace (M : Type 0) : Type 0 where
 abbrev pub alone : StationPlace StationMemory
 alone = record { station = λ l. l; with_station = λ l m. l }
 
--- the counters of so many frames are taken
+-- the counters of this many frames are taken
 abbrev pub counted : {M : Type 0} → StationPlace M → ℕ → M → M
 counted h count m = h.with_station (record (h.station m) { counter = counter.reserved (h.station m).counter count }) m
 

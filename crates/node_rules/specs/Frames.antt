@@ -10,7 +10,7 @@ use Rattle.mac_frames.specs.Grammar.{header_then}
 pub use Rattle.mac_frames.specs.Sent.{to_all}
 use Rattle.mac_frames.specs.Sent.{sent_head}
 use Rattle.mac_frames.specs.Faults.{frame_fault}
-use Rattle.mac_frames.specs.Reading.{head_in, body_in}
+use Rattle.mac_frames.specs.Reader.{head_in, body_in}
 use Rattle.mesh_header.specs.declared.unit.Unit.{Unit}
 use Rattle.mesh_header.specs.declared.unit.Unit.TheVariants.{Local}
 use Rattle.mesh_header.specs.Grammar.{spelling}

@@ -12,8 +12,8 @@ use Rattle.node_rules.specs.Accepted.{Accepted}
 use Rattle.node_rules.specs.Frames.{Arrived}
 use Rattle.node_rules.specs.Memory.{Memory}
 use Rattle.node_rules.specs.Plans.{Plan, carry_out}
-use Rattle.node_rules.specs.Accepting as accepting
-use Rattle.node_rules.specs.Hearing as hearing
+use Rattle.node_rules.specs.Acceptance as acceptance
+use Rattle.node_rules.specs.HearingRules as hearing_rules
 use Rattle.node_rules.specs.Calls as calls
 use Rattle.node_rules.specs.Neighbours as neighbours
 use Rattle.node_rules.specs.Coordinators as coordinator_rules
@@ -36,9 +36,9 @@ WritesHome p = All PutsHome p.puts
 
 -- What the coordinator does.
 pub record CoordinatorWritesHome (own : coordinator_rules.CoordinatorIdentity) (m : Memory) : Type 0 where
-  pub accepts : (a : Option Arrived) → WritesHome (accepting.accept m.station own.eui a)
+  pub accepts : (a : Option Arrived) → WritesHome (acceptance.accept m.station own.eui a)
   pub hears : (got : Accepted) (cost note now : ℕ) → WritesHome (coordinator_rules.hear_coordinator own m got cost note now)
-  pub station_hears : (got : Accepted) (cost note now : ℕ) → WritesHome (hearing.hear m.station got cost note now)
+  pub station_hears : (got : Accepted) (cost note now : ℕ) → WritesHome (hearing_rules.hear m.station got cost note now)
   pub sends : (to : ℕ) (octets : List ℕ) (note now : ℕ) → WritesHome (calls.send m.station to octets note now)
   pub commands : (to : ℕ) (octets : List ℕ) (now : ℕ) → WritesHome (calls.send_command m.station to octets now)
   pub sends_local : (code : ℕ) (to : Option ℕ) (body : List ℕ) → WritesHome (neighbours.send_local m.station code to body)

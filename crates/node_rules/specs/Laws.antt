@@ -1,6 +1,6 @@
 -- What holds of the rules whatever a node holds and whatever comes.
 use Rattle.std.specs.Option.{option_map, option_and_then}
-use Rattle.fragment_buffers.specs.Taking.{blocks_held}
+use Rattle.fragment_buffers.specs.PieceIntake.{blocks_held}
 use Rattle.std.specs.Prelude.{IfSome, ◌<◌, ◌^◌, ◌≡◌, ◌⊎◌, ℕ, ◌-◌, ◌≤◌, ◌==◌, Bool, All, List, [], ◌∷◌, ◌++◌, length, Option, Some, None, Result, Ok, Err}
 use Rattle.std.specs.Prelude.{if◌then◌else◌}
 use Rattle.std.specs.FinMap.{empty, insert}
@@ -19,10 +19,10 @@ use Rattle.node_rules.specs.declared.refusal.JoinRefusal.TheVariants as joins
 use Rattle.node_rules.specs.declared.refusal.LeaveRefusal.TheVariants as leaves
 use Rattle.node_rules.specs.declared.refusal.CoordinatorRefusal.TheVariants as orders
 use Rattle.node_rules.specs.Frames.{Arrived}
-use Rattle.node_rules.specs.Accepting.{accept}
-use Rattle.mesh_header.specs.Reading.{unit_in}
+use Rattle.node_rules.specs.Acceptance.{accept}
+use Rattle.mesh_header.specs.Reader.{unit_in}
 use Rattle.loadng_messages.specs.declared.message.Message.TheVariants.{Rrep}
-use Rattle.node_rules.specs.Hearing.{hear}
+use Rattle.node_rules.specs.HearingRules.{hear}
 use Rattle.node_rules.specs.Replies.{route_message}
 use Rattle.node_rules.specs.Calls as calls
 use Rattle.node_rules.specs.Meters as meters
@@ -31,7 +31,7 @@ use Rattle.node_rules.specs.Drafts.{blocks_waiting}
 pub use Rattle.fragment_buffers.specs.Loads.{IsShort}
 use Rattle.fragment_buffers.specs.Loads.{Load, Datagram, Command}
 use Rattle.node_rules.specs.Memory.{StationMemory, Body, Memory, Node, Role, node_address, node_route}
-use Rattle.node_rules.specs.StoreReading.{memory_of, remembering, blank_station}
+use Rattle.node_rules.specs.RestartStates.{memory_of, remembering, blank_station}
 use Rattle.node_rules.specs.Plans.{Plan, Outcome, carry_out}
 use Rattle.node_rules.specs.NodeSteps.{acts, stays}
 
@@ -42,7 +42,7 @@ abbrev pub all_put : List Write → Records → Records
 all_put [] records = records
 all_put (w ∷ rest) records = all_put rest (insert records w.slot w.octets)
 
--- the loss of power that is still to come after so many writes
+-- the loss of power that is still to come after this many writes
 abbrev pub nearer_by : ℕ → Cut → Cut
 nearer_by count cut = record cut { nth = cut.nth - count }
 
@@ -57,7 +57,7 @@ pub record IsWhole {M A : Type 0} (records : Records) (cut : Option Cut) (p : Pl
   pub made : o.made ≡ p.made
   pub opened : o.opened ≡ p.opened
 
--- A plan one of whose writes failed: those in front of it were made, and the failed one as the loss of power says, which is over.
+-- A plan one of whose writes failed: those before it were made, and the failed one as the loss of power says, which is over.
 pub record IsCutOff {M A : Type 0} (records : Records) (cut : Option Cut) (p : Plan M A)
     (o : Outcome M A) : Type 0 where
   pub front : List Write

@@ -4,7 +4,7 @@ use Rattle.std.specs.Prelude.{◌≡◌, ◌≢◌, ◌⊎◌, ℕ, ◌<◌, ◌
 use Rattle.std.specs.FinMap.{get}
 use Rattle.plc_base.specs.declared.address.Eui.{Eui}
 use Rattle.plc_base.specs.declared.key.Key.{Key}
-use Rattle.plc_base.specs.declared.key.Rand.{Rand}
+use Rattle.plc_base.specs.declared.key.RandomOctets.{RandomOctets}
 use Rattle.plc_base.specs.declared.keeper.Cut.{Cut}
 use Rattle.plc_base.specs.Grant.{Granted}
 use Rattle.plc_base.specs.Keeper.{Records, Write}
@@ -12,8 +12,8 @@ use Rattle.node_rules.specs.Accepted.{Accepted}
 use Rattle.node_rules.specs.Frames.{Arrived}
 use Rattle.node_rules.specs.Memory.{StationMemory, Memory}
 use Rattle.node_rules.specs.Plans.{Plan, carry_out}
-use Rattle.node_rules.specs.Accepting as accepting
-use Rattle.node_rules.specs.Hearing as hearing
+use Rattle.node_rules.specs.Acceptance as acceptance
+use Rattle.node_rules.specs.HearingRules as hearing_rules
 use Rattle.node_rules.specs.Calls as calls
 use Rattle.node_rules.specs.Neighbours as neighbours
 use Rattle.node_rules.specs.MemoryDrafts as drafts
@@ -36,8 +36,8 @@ LeavesLog p = All IsBesideLog p.puts
 
 -- What a station does.
 pub record StationLeavesLog (l : StationMemory) : Type 0 where
-  pub accepts : (own : Eui) (a : Option Arrived) → LeavesLog (accepting.accept l own a)
-  pub hears : (got : Accepted) (cost note now : ℕ) → LeavesLog (hearing.hear l got cost note now)
+  pub accepts : (own : Eui) (a : Option Arrived) → LeavesLog (acceptance.accept l own a)
+  pub hears : (got : Accepted) (cost note now : ℕ) → LeavesLog (hearing_rules.hear l got cost note now)
   pub sends : (to : ℕ) (octets : List ℕ) (note now : ℕ) → LeavesLog (calls.send l to octets note now)
   pub commands : (to : ℕ) (octets : List ℕ) (now : ℕ) → LeavesLog (calls.send_command l to octets now)
   pub sends_local : (code : ℕ) (to : Option ℕ) (body : List ℕ) → LeavesLog (neighbours.send_local l code to body)
@@ -56,7 +56,7 @@ pub record MeterLeavesLog (x : meters.Identity) (m : Memory) : Type 0 where
   pub joins : (agent now : ℕ) → LeavesLog (meters.join x m agent now)
   pub leaves : LeavesLog (meters.leave m)
   pub provisions : (granted : Granted) → LeavesLog (meters.provision m granted)
-  pub takes_random : (value : Rand) → LeavesLog (drafts.give_random m value)
+  pub takes_random : (value : RandomOctets) → LeavesLog (drafts.give_random m value)
 
 -- What the coordinator does beside its station.
 pub record CoordinatorLeavesLog (own : coordinator_rules.CoordinatorIdentity) (m : Memory) : Type 0 where

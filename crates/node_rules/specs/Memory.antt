@@ -3,7 +3,7 @@ use Rattle.std.specs.Prelude.{ℕ, List, Option}
 use Rattle.std.specs.Option.{option_map, option_and_then}
 use Rattle.plc_base.specs.declared.address.Eui.{Eui}
 use Rattle.plc_base.specs.declared.key.Key.{Key}
-use Rattle.plc_base.specs.declared.key.Rand.{Rand}
+use Rattle.plc_base.specs.declared.key.RandomOctets.{RandomOctets}
 use Rattle.plc_base.specs.declared.keeper.Cut.{Cut}
 use Rattle.plc_base.specs.Keeper.{Records}
 use Rattle.frame_counters.specs.SendCounter as counter
@@ -14,7 +14,7 @@ use Rattle.routing_set.specs.RoutingSet as routing
 use Rattle.routing_set.specs.OwnNumber as own_number
 use Rattle.fragment_buffers.specs.Reassembly as reassembly
 pub use Rattle.fragment_buffers.specs.Loads.{Load, Datagram, Command, load_octets}
-pub use Rattle.fragment_buffers.specs.Waiting.{Body}
+pub use Rattle.fragment_buffers.specs.WaitingBodies.{Body}
 use Rattle.eap_psk.specs.declared.server.Server.{Server}
 use Rattle.eap_psk.specs.declared.peer.Peer.{Peer}
 use Rattle.node_rules.specs.declared.heard.Way.{Way}
@@ -74,7 +74,7 @@ pub record CoordinatorSession : Type 0 where
 pub record Memory : Type 0 where
   pub station : StationMemory
   -- the random values that it was given, the oldest first
-  pub randoms : List Rand
+  pub randoms : List RandomOctets
   pub session : Option MeterSession
   pub sessions : List CoordinatorSession
   pub book : book.Book

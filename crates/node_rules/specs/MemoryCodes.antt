@@ -7,7 +7,7 @@ use Rattle.group_keys.specs.KeyRing as ring
 use Rattle.routing_set.specs.RoutingSet as routing
 use Rattle.routing_set.specs.OwnNumber as own_number
 use Rattle.fragment_buffers.specs.Reassembly as reassembly
-use Rattle.fragment_buffers.specs.Waiting.{Body, body_code}
+use Rattle.fragment_buffers.specs.WaitingBodies.{Body, body_code}
 use Rattle.node_rules.specs.Memory.{StationMemory}
 
 -- what a station holds is kept as the tuple of its fields

@@ -2,7 +2,7 @@
 use Rattle.std.specs.Prelude.{ℕ, List, [], ◌∷◌, ◌++◌, length, drop, nat_lt, Option, Some, None, Result, Ok, Err, slice_get}
 use Rattle.std.specs.Option.{option_map, option_map_or}
 use Rattle.plc_base.specs.declared.address.Eui.{Eui}
-use Rattle.plc_base.specs.declared.key.Rand.{Rand}
+use Rattle.plc_base.specs.declared.key.RandomOctets.{RandomOctets}
 use Rattle.plc_base.specs.declared.tags.PairTag.{PairTag}
 use Rattle.joining_messages.specs.declared.message.JoinMessage.{JoinMessage}
 use Rattle.eap_psk.specs.declared.fault.EapFault.{EapFault}
@@ -19,8 +19,8 @@ use Rattle.node_rules.specs.Memory.{StationMemory, Memory, address_of}
 use Rattle.node_rules.specs.Plans.{Plan}
 use Rattle.node_rules.specs.Drafts.{Draft, StationPlace, Ends, empty_draft, refused, sealing, choose, lack}
 use Rattle.node_rules.specs.Calls as calls
-use Rattle.node_rules.specs.Hearing.{dropped_for}
-use Rattle.node_rules.specs.Joining.{command_of}
+use Rattle.node_rules.specs.HearingRules.{dropped_for}
+use Rattle.node_rules.specs.JoiningPackets.{command_of}
 
 -- the memory with another line
 abbrev pub with_station : StationMemory → Memory → Memory
@@ -86,7 +86,7 @@ command_lack m to message = option_map dropped_for (lack m.station to (length (c
 -- # Random values
 
 -- the oldest random value, and the memory without it
-abbrev pub oldest : Memory → Option Rand
+abbrev pub oldest : Memory → Option RandomOctets
 oldest m = slice_get m.randoms 0
 
 -- the memory without the oldest random value
@@ -98,7 +98,7 @@ abbrev pub given_ends : Ends RandomFault
 given_ends = record { spent = RandomsFull; store = RandomsFull }
 
 -- a random value more, of which 8 are held at most
-abbrev pub give_random : Memory → Rand → Plan Memory (Result (Unit {0}) RandomFault)
+abbrev pub give_random : Memory → RandomOctets → Plan Memory (Result (Unit {0}) RandomFault)
 give_random m value =
     choose (nat_lt 7 (length m.randoms)) (refused given_ends m RandomsFull)
     (sealing in_memory given_ends

@@ -4,13 +4,13 @@ use Rattle.std.specs.Option.{option_map, option_map_or}
 use Rattle.plc_base.specs.Faults.{◌then◌, ◌when◌, ◌unless◌}
 use Rattle.plc_base.specs.declared.address.Eui.{Eui}
 use Rattle.plc_base.specs.declared.key.Key.{Key}
-use Rattle.plc_base.specs.declared.key.Rand.{Rand}
+use Rattle.plc_base.specs.declared.key.RandomOctets.{RandomOctets}
 use Rattle.plc_base.specs.Grant.{Granted}
 use Rattle.node_rules.specs.declared.refusal.RingRefusal.{RingRefusal}
 use Rattle.joining_messages.specs.declared.message.JoinMessage.{JoinMessage}
 use Rattle.joining_messages.specs.declared.message.JoinBody.{JoinBody}
 use Rattle.joining_messages.specs.declared.message.JoinBody.TheVariants as body
-use Rattle.joining_messages.specs.Reading.{join_in}
+use Rattle.joining_messages.specs.Reader.{join_in}
 use Rattle.eap_psk.specs.Messages.{granting_text}
 use Rattle.eap_psk.specs.Faults.{first_fault}
 use Rattle.eap_psk.specs.Tags.{mac_p_tag, mac_s_tag, granting_tag, success_tag}
@@ -30,11 +30,11 @@ use Rattle.node_rules.specs.declared.refusal.LeaveRefusal.TheVariants as leaving
 use Rattle.node_rules.specs.Ciphers.{Ciphers}
 use Rattle.node_rules.specs.Memory.{StationMemory, Memory, MeterSession, SessionWay, ByAgent, ByCommand, address_of}
 use Rattle.node_rules.specs.Plans.{Plan, within}
-use Rattle.node_rules.specs.Accepting.{same_eui}
+use Rattle.node_rules.specs.Acceptance.{same_eui}
 use Rattle.node_rules.specs.Drafts.{Draft, Ends, empty_draft, with_ring, refused, sealing, sealed, checked, choose}
-use Rattle.node_rules.specs.Hearing.{dropped, hear}
+use Rattle.node_rules.specs.HearingRules.{dropped, hear}
 use Rattle.node_rules.specs.Calls as calls
-use Rattle.node_rules.specs.Joining.{is_first, message}
+use Rattle.node_rules.specs.JoiningPackets.{is_first, message}
 use Rattle.eap_psk.specs.Sessions.{peer_for, identifier_of, agreed_by}
 use Rattle.node_rules.specs.MemoryDrafts.{with_station, in_memory, on_station, with_memory_by, with_pair_tags, goes_up, goes_down, is_commanded, command_lack}
 use Rattle.node_rules.specs.MemoryDrafts.{oldest, without_oldest, Unread, unread, packet_fault}
@@ -147,7 +147,7 @@ replies m session_way peer join now =
     heard.Replied)
 
 -- the second packet goes out, made with a random value
-abbrev pub reply_with : Identity → Memory → SessionWay → List ℕ → ℕ → Rand → Hearing
+abbrev pub reply_with : Identity → Memory → SessionWay → List ℕ → ℕ → RandomOctets → Hearing
 reply_with x m session_way packet now value =
     let peer = peer_for x.eui value packet in
     replies m session_way peer (message x.eui (body.Join (x.ciphers.second x.psk (identifier_of packet) peer))) now

@@ -11,7 +11,7 @@ use Rattle.node_rules.specs.Memory.{StationMemory, station_route}
 use Rattle.node_rules.specs.Plans.{Plan}
 use Rattle.node_rules.specs.Drafts.{Draft, Ends, alone, empty_draft, goes, sealed}
 use Rattle.node_rules.specs.States.{State}
-use Rattle.node_rules.specs.Carrying.{Carries, nothing}
+use Rattle.node_rules.specs.CarriedPlans.{Carries, nothing}
 
 -- # Commands for the neighbours
 

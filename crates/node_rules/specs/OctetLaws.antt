@@ -8,7 +8,7 @@ use Rattle.node_rules.specs.declared.heard.Way.TheVariants.{Mesh}
 use Rattle.node_rules.specs.Ciphers.{Ciphers, network}
 use Rattle.node_rules.specs.Frames.{Arrived, arrived}
 use Rattle.node_rules.specs.Memory.{StationMemory}
-use Rattle.node_rules.specs.Hearing.{hear}
+use Rattle.node_rules.specs.HearingRules.{hear}
 use Rattle.node_rules.specs.MemoryDrafts.{Unread, unread}
 
 -- # What a station hands on

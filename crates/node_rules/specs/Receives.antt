@@ -8,7 +8,7 @@ use Rattle.node_rules.specs.declared.refusal.FrameRefusal.{FrameRefusal}
 use Rattle.node_rules.specs.declared.refusal.FrameRefusal.TheVariants as frames
 use Rattle.node_rules.specs.declared.refusal.Unheard.{Unheard}
 use Rattle.node_rules.specs.declared.refusal.Unheard.TheVariants as unheard
-use Rattle.node_rules.specs.Carrying.{Carries, nothing}
+use Rattle.node_rules.specs.CarriedPlans.{Carries, nothing}
 use Rattle.node_rules.specs.Plans.{Plan}
 use Rattle.node_rules.specs.States.{State}
 

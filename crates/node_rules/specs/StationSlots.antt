@@ -10,8 +10,8 @@ use Rattle.node_rules.specs.Accepted.{Accepted}
 use Rattle.node_rules.specs.Frames.{Arrived}
 use Rattle.node_rules.specs.Memory.{StationMemory}
 use Rattle.node_rules.specs.Plans.{Plan}
-use Rattle.node_rules.specs.Accepting as accepting
-use Rattle.node_rules.specs.Hearing as hearing
+use Rattle.node_rules.specs.Acceptance as acceptance
+use Rattle.node_rules.specs.HearingRules as hearing_rules
 use Rattle.node_rules.specs.Calls as calls
 use Rattle.node_rules.specs.Neighbours as neighbours
 use Rattle.node_rules.specs.Tables.{HasShortTables}
@@ -27,8 +27,8 @@ WritesOfStation p = All IsOfStation p.puts
 
 -- What a station does that is not about its ring.
 pub record WritesItsOwn (l : StationMemory) : Type 0 where
-  pub accepts : (own : Eui) (a : Option Arrived) → WritesOfStation (accepting.accept l own a)
-  pub hears : (got : Accepted) (cost note now : ℕ) → WritesOfStation (hearing.hear l got cost note now)
+  pub accepts : (own : Eui) (a : Option Arrived) → WritesOfStation (acceptance.accept l own a)
+  pub hears : (got : Accepted) (cost note now : ℕ) → WritesOfStation (hearing_rules.hear l got cost note now)
   pub sends : (to : ℕ) (octets : List ℕ) (note now : ℕ) → WritesOfStation (calls.send l to octets note now)
   pub commands : (to : ℕ) (octets : List ℕ) (now : ℕ) → WritesOfStation (calls.send_command l to octets now)
   pub sends_local : (code : ℕ) (to : Option ℕ) (body : List ℕ) → WritesOfStation (neighbours.send_local l code to body)

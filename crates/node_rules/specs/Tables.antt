@@ -2,7 +2,7 @@
 use Rattle.std.specs.Prelude.{◌≡◌, ℕ, ◌<◌, ◌≤◌, Bool, List, length, All, ⊤, Option}
 use Rattle.plc_base.specs.declared.address.Eui.{Eui}
 use Rattle.plc_base.specs.declared.key.Key.{Key}
-use Rattle.plc_base.specs.declared.key.Rand.{Rand}
+use Rattle.plc_base.specs.declared.key.RandomOctets.{RandomOctets}
 use Rattle.plc_base.specs.declared.keeper.Cut.{Cut}
 use Rattle.plc_base.specs.Grant.{Granted}
 use Rattle.plc_base.specs.Keeper.{Records, Store, Write}
@@ -15,8 +15,8 @@ use Rattle.node_rules.specs.Accepted.{Accepted}
 use Rattle.node_rules.specs.Frames.{Arrived}
 use Rattle.node_rules.specs.Memory.{StationMemory, Memory, Role, Coordinator, Meter}
 use Rattle.node_rules.specs.Plans.{Plan, carry_out}
-use Rattle.node_rules.specs.Accepting as accepting
-use Rattle.node_rules.specs.Hearing as hearing
+use Rattle.node_rules.specs.Acceptance as acceptance
+use Rattle.node_rules.specs.HearingRules as hearing_rules
 use Rattle.node_rules.specs.Calls as calls
 use Rattle.node_rules.specs.Neighbours as neighbours
 use Rattle.node_rules.specs.MemoryDrafts as drafts
@@ -25,7 +25,7 @@ use Rattle.node_rules.specs.Coordinators as coordinator_rules
 
 -- # Writes in place
 
--- a write to a slot of a table goes to one of its first entries, of which there are so many, or to the place after them
+-- a write to a slot of a table goes to one of its first entries, of which there are this many, or to the place after them
 abbrev pub IsAtMost : {A : Type 0} → slots.Layout A → ℕ → Write → Type 0
 IsAtMost layout count w = (place : ℕ) → place < layout.slots → w.slot ≡ slots.slot_of layout place → place ≤ count
 
@@ -50,8 +50,8 @@ WritesInPlace l b p = ArePlaced l b p.puts
 
 -- What a station does, whatever the book is. None of it writes to the book.
 pub record StationWritesInPlace (l : StationMemory) (b : book.Book) : Type 0 where
-  pub accepts : (own : Eui) (a : Option Arrived) → WritesInPlace l b (accepting.accept l own a)
-  pub hears : (got : Accepted) (cost note now : ℕ) → WritesInPlace l b (hearing.hear l got cost note now)
+  pub accepts : (own : Eui) (a : Option Arrived) → WritesInPlace l b (acceptance.accept l own a)
+  pub hears : (got : Accepted) (cost note now : ℕ) → WritesInPlace l b (hearing_rules.hear l got cost note now)
   pub sends : (to : ℕ) (octets : List ℕ) (note now : ℕ) → WritesInPlace l b (calls.send l to octets note now)
   pub commands : (to : ℕ) (octets : List ℕ) (now : ℕ) → WritesInPlace l b (calls.send_command l to octets now)
   pub sends_local : (code : ℕ) (to : Option ℕ) (body : List ℕ) → WritesInPlace l b (neighbours.send_local l code to body)
@@ -70,7 +70,7 @@ pub record MeterWritesInPlace (x : meters.Identity) (m : Memory) : Type 0 where
   pub joins : (agent now : ℕ) → WritesInPlace m.station m.book (meters.join x m agent now)
   pub leaves : WritesInPlace m.station m.book (meters.leave m)
   pub provisions : (granted : Granted) → WritesInPlace m.station m.book (meters.provision m granted)
-  pub takes_random : (value : Rand) → WritesInPlace m.station m.book (drafts.give_random m value)
+  pub takes_random : (value : RandomOctets) → WritesInPlace m.station m.book (drafts.give_random m value)
 
 -- What the coordinator does beside its station.
 pub record CoordinatorWritesInPlace (own : coordinator_rules.CoordinatorIdentity) (m : Memory) : Type 0 where

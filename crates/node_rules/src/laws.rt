@@ -9,10 +9,10 @@ ghost use Rattle.node_rules.specs.declared.heard.Heard.TheVariants as heard;
 ghost use Rattle.node_rules.specs.declared.refusal.Dropped.TheVariants as drops;
 ghost use Rattle.node_rules.specs.Frames.{Sent};
 ghost use Rattle.node_rules.specs.Memory.{StationMemory};
-ghost use Rattle.node_rules.specs.Hearing.{hear};
-ghost use Rattle.node_rules.specs.Composing.{behind, adding, out_with, seen, ComesSo};
+ghost use Rattle.node_rules.specs.HearingRules.{hear};
+ghost use Rattle.node_rules.specs.ComposedPlans.{behind, adding, out_with, seen, ComesSo};
 ghost use Rattle.plc_base.specs.declared.out_frame.Out.{Out};
-ghost use Rattle.node_rules.specs.Carrying.{Carries, IsCarriedOut};
+ghost use Rattle.node_rules.specs.CarriedPlans.{Carries, IsCarriedOut};
 ghost use Rattle.node_rules.specs.Plans.{Plan, resting, within};
 ghost use Rattle.node_rules.specs.States.{State};
 ghost use Rattle.node_rules.specs.Laws.{WritesFailCleanly, NoCutNoFailure, HaltedHasNoAddress, RinglessHasNoAddress, HaltedDoesNothing};
@@ -22,16 +22,16 @@ ghost use Rattle.node_rules.specs.Laws.{HearingIsBounded, RepliesAreFew, AMeters
 ghost use Rattle.node_rules.specs.Laws.{ACoordinatorsHearingIsBounded, ASendIsBounded, AJoinIsBounded, AnOrderIsBounded, AcceptingOnlyMarks};
 ghost use Rattle.node_rules.specs.Laws.{AnEmptyStoreIsBlank};
 
-/// Where the write of a plan fails, the writes in front of it are stored and those after it are not; the failed one is stored as the
+/// Where the write of a plan fails, the writes before it are stored and those after it are not; the failed one is stored as the
 /// loss of power says. The node answers the word of a failed write, and nothing is sent, made or kept in memory. A plan whose writes are
-/// all in front of the loss is carried out whole.
-#[tactic(auto, using(crate::proofs::Writing::clean))]
+/// all before the loss is carried out whole.
+#[tactic(auto, using(crate::proofs::FailedWrites::clean))]
 pub fn writes_fail_cleanly<M, A>()
     ensures { WritesFailCleanly M A }
 {}
 
 /// Without a loss of power to come no write fails, and every plan is carried out whole.
-#[tactic(auto, using(crate::proofs::Writing::no_cut))]
+#[tactic(auto, using(crate::proofs::FailedWrites::no_cut))]
 pub fn no_cut_no_failure<M, A>()
     ensures { NoCutNoFailure M A }
 {}
@@ -44,19 +44,19 @@ pub fn calls_are_functions<M, A>()
 {}
 
 /// A halted node has no address and no route.
-#[tactic(auto, using(crate::proofs::Halting::halted))]
+#[tactic(auto, using(crate::proofs::HaltedNodes::halted))]
 pub fn halted_has_no_address()
     ensures { HaltedHasNoAddress }
 {}
 
 /// A node without a ring has no address and no route.
-#[tactic(auto, using(crate::proofs::Halting::ringless))]
+#[tactic(auto, using(crate::proofs::HaltedNodes::ringless))]
 pub fn ringless_has_no_address()
     ensures { RinglessHasNoAddress }
 {}
 
 /// A halted node answers each call with the word for it, and does nothing else.
-#[tactic(auto, using(crate::proofs::Halting::does_nothing))]
+#[tactic(auto, using(crate::proofs::HaltedNodes::does_nothing))]
 pub fn halted_does_nothing<A>()
     ensures { HaltedDoesNothing A }
 {}

@@ -2,11 +2,11 @@
 //!
 //! The definitions stand in `specs/`, and `docs/NODE-RULES.md` reads them aloud. To begin with:
 //!
-//! - `Memory.antt` is what a node holds, `Plans.antt` what a rule answers: a plan of puts, memory and frames. `Carrying.antt` says how a plan is
+//! - `Memory.antt` is what a node holds, `Plans.antt` what a rule answers: a plan of puts, memory and frames. `CarriedPlans.antt` says how a plan is
 //!   carried out over a store whose writes may fail (`Carries`, `carry_out`).
-//! - `Calls.antt` and `Accepting.antt`, `Hearing.antt` are the rules of a station; `Meters.antt` and `Coordinators.antt` those of the roles.
+//! - `Calls.antt` and `Acceptance.antt`, `HearingRules.antt` are the rules of a station; `Meters.antt` and `Coordinators.antt` those of the roles.
 //! - `Frames.antt` is the edge: what a frame spells, and what arrived octets are, under ciphers that are given (`Ciphers.antt`).
-//! - `Agreement.antt` is what memory and store say of one another, `StoreReading.antt` what a restart makes of a store.
+//! - `Agreement.antt` is what memory and store say of one another, `RestartStates.antt` what a restart makes of a store.
 //!
 //! The code here is the words of the answers ([`Path`], [`Heard`], [`SendRefusal`] ..), [`Shown`], and the laws, each an empty function whose
 //! clause is the law:

@@ -3,7 +3,7 @@ use Rattle.std.proofs.Common.{◌≡◌, ℕ, ◌-◌, ◌<◌, ◌≤◌, zero,
 use Rattle.std.specs.Prelude.{slice_get, slice_index, slice_range}
 use Rattle.std.proofs.Math.Seq.{drop-append_seam}
 use Rattle.std.proofs.lemmas.List.{take-append-le, take_all, drop-append-le}
-use Rattle.octet_log.specs.Keeping.{strings_of, AreEnds}
+use Rattle.octet_log.specs.LogChains.{strings_of, AreEnds}
 
 pub length_strings : (octets : List ℕ) (start : ℕ) (ends : List ℕ) → length (strings_of octets start ends) ≡ length ends
 length_strings octets start [] = refl

@@ -6,7 +6,7 @@ use Rattle.std.proofs.lemmas.Bool.{cases_lt, cases_eq}
 use Rattle.std.proofs.lemmas.List.{get_or_append_left, get_or_push, get_or-set_same, get_or-set_other, take_all, take-append-le, map_push, length-map}
 use Rattle.std.proofs.lemmas.List.{length-set}
 use Rattle.octet_log.specs.declared.chains.Link.{Link}
-use Rattle.octet_log.specs.Keeping.{IsLinked, chains_of, befores_of}
+use Rattle.octet_log.specs.LogChains.{IsLinked, chains_of, befores_of}
 use Rattle.octet_log.specs.Logs.{IsLast}
 use Rattle.octet_log.proofs.Lasts.{other_pushed, own_pushed}
 

@@ -5,10 +5,10 @@ ghost use Rattle.octet_log.specs.Logs.{IsLast};
 use std::alloc::{AllocError, Global};
 use std::marker::Model;
 
-/// So many chains.
+/// This many chains.
 pub const CHAINS: usize = 16_384;
 
-/// A number's chain, and the last number before it that is in that chain, 0 where there is none.
+/// A number's chain, and the last number before it that is in that chain, 0 if there is none.
 #[derive(Drop)]
 pub struct Link {
     chain: u32,
@@ -25,7 +25,7 @@ pub struct Chains {
 
 impl Model for Chains {
     ghost use Rattle.std.specs.Prelude.{vec_capacity};
-    ghost use Rattle.octet_log.specs.Keeping.{Chained, chains_of, IsLinked};
+    ghost use Rattle.octet_log.specs.LogChains.{Chained, chains_of, IsLinked};
 
     ghost Value = { Chained };
 
@@ -58,7 +58,7 @@ impl Chains {
         }
     }
 
-    /// The last number in a chain, 0 where there is none.
+    /// The last number in a chain, 0 if there is none.
     pub fn last(&self, chain: usize) -> u32
         requires { chain < CHAINS }
         ensures { IsLast self.now.chains chain result }
@@ -69,7 +69,7 @@ impl Chains {
         }
     }
 
-    /// The last number before a number that is in its chain, 0 where there is none.
+    /// The last number before a number that is in its chain, 0 if there is none.
     pub fn before(&self, number: u32) -> u32
         requires some { 0 < number }
         requires within { number ≤ length self.now.chains }
@@ -78,7 +78,7 @@ impl Chains {
         self.links[number as usize - 1].before
     }
 
-    /// Makes room for so many more numbers. It fails only where memory runs out, and nothing changes then.
+    /// Makes room for this many more numbers. It fails only where memory runs out, and nothing changes then.
     pub fn reserve(&mut self, places: usize) -> Result<(), AllocError>
         ensures ok { OnOk result (self.new ≡ record self.old { places = max self.old.places places }) }
         ensures err { OnErr result (self.new ≡ self.old) }

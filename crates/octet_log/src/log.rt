@@ -1,7 +1,7 @@
 //! The log of octet strings, and the last of those that are the same.
 ghost use Rattle.std.specs.Prelude.{◌≡◌, ◌<◌, ◌≤◌, ◌-◌, ◌++◌, ◌∷◌, [], max, Some, IsTrue, ◌↔◌, IsOk, OnOk, OnErr, length, map, take, slice_get};
 ghost use Rattle.std.specs.Option.{ForSome, option_copied};
-ghost use Rattle.octet_log.specs.Keeping.{chain_by, chain_of, ending};
+ghost use Rattle.octet_log.specs.LogChains.{chain_by, chain_of, ending};
 ghost use Rattle.octet_log.specs.Logs.{IsLast};
 
 use crate::chains::{CHAINS, Chains};
@@ -9,7 +9,7 @@ use crate::strings::Strings;
 use std::alloc::{AllocError, Global};
 use std::marker::Model;
 
-/// So many octets at the end of a string choose its chain. A sealed frame ends with its tag, in which frames differ.
+/// This many octets at the end of a string choose its chain. A sealed frame ends with its tag, in which frames differ.
 const ENDING: usize = 16;
 
 /// Octet strings in the order in which they came.
@@ -23,7 +23,7 @@ pub struct OctetLog {
 }
 
 impl Model for OctetLog {
-    ghost use Rattle.octet_log.specs.Keeping.{IsChained};
+    ghost use Rattle.octet_log.specs.LogChains.{IsChained};
     ghost use Rattle.octet_log.specs.Logs.{Log};
 
     ghost Value = { Log };
@@ -53,7 +53,7 @@ fn chain_by(octets: &[u8]) -> usize
 }
 
 // The chain of an octet string: strings that are the same are in one chain.
-#[tactic(auto, unfolding(crate::specs::Keeping::chain_of))]
+#[tactic(auto, unfolding(crate::specs::LogChains::chain_of))]
 fn chain_of(octets: &[u8]) -> usize
     ensures value { result ≡ chain_of octets.now }
     ensures range { result < CHAINS }
@@ -135,7 +135,7 @@ impl OctetLog {
         }
     }
 
-    /// Reserves the memory for so many more strings of so many octets together, where less is reserved, and else takes none.
+    /// Reserves the memory for this many more strings of this many octets together, where less is reserved, and else takes none.
     /// It fails only where memory runs out, and the log is then as before.
     pub fn reserve(&mut self, strings: usize, octets: usize) -> Result<(), AllocError>
         ensures ok { OnOk result (self.new ≡ record self.old {

@@ -16,7 +16,7 @@ pub struct Strings {
 
 impl Model for Strings {
     ghost use Rattle.std.specs.Prelude.{vec_capacity};
-    ghost use Rattle.octet_log.specs.Keeping.{strings_of, ArePlaced};
+    ghost use Rattle.octet_log.specs.LogChains.{strings_of, ArePlaced};
     ghost use Rattle.octet_log.specs.Logs.{Log};
 
     ghost Value = { Log };
@@ -78,14 +78,14 @@ impl Strings {
         Some(part(&self.octets, start, end))
     }
 
-    /// Whether there is room for so many more strings of so many octets together.
+    /// Whether there is room for this many more strings of this many octets together.
     pub fn has_room(&self, strings: usize, octets: usize) -> bool
         ensures { result ≡ (nat_le strings self.now.places && nat_le octets self.now.room) }
     {
         strings <= self.places && octets <= self.room
     }
 
-    /// Makes room for so many more strings of so many octets together. It fails only where memory runs out, and nothing changes then.
+    /// Makes room for this many more strings of this many octets together. It fails only where memory runs out, and nothing changes then.
     pub fn reserve(&mut self, strings: usize, octets: usize) -> Result<(), AllocError>
         ensures ok { OnOk result (self.new ≡ record self.old {
           places = max self.old.places strings;

@@ -1,5 +1,5 @@
-pub mod Deferring
-pub mod Listing
+pub mod DeferredPuts
+pub mod ListedPuts
 pub mod PutCounts
 pub mod HeardPuts
 pub mod SendPuts

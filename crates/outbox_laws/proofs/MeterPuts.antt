@@ -6,7 +6,7 @@ use Rattle.plc_base.specs.Grant.{Granted}
 use Rattle.joining_messages.specs.declared.message.JoinMessage.{JoinMessage}
 use Rattle.joining_messages.specs.declared.message.JoinBody.{JoinBody}
 use Rattle.joining_messages.specs.declared.message.JoinBody.TheVariants as body
-use Rattle.joining_messages.specs.Reading.{join_in}
+use Rattle.joining_messages.specs.Reader.{join_in}
 use Rattle.eap_psk.specs.Faults.{first_fault}
 use Rattle.eap_psk.specs.declared.peer.Peer.{Peer}
 use Rattle.node_rules.specs.Accepted.{Accepted}
@@ -20,9 +20,9 @@ use Rattle.node_rules.specs.declared.refusal.Dropped.TheVariants.{BadUnit, NoSes
 use Rattle.node_rules.specs.Memory.{StationMemory, Memory, MeterSession, SessionWay, ByAgent, ByCommand, address_of}
 use Rattle.node_rules.specs.Plans.{Plan}
 use Rattle.node_rules.specs.Drafts.{Draft, empty_draft, checked, choose}
-use Rattle.node_rules.specs.Hearing as station_rules
-use Rattle.node_rules.specs.Hearing.{dropped}
-use Rattle.node_rules.specs.Joining.{message}
+use Rattle.node_rules.specs.HearingRules as station_rules
+use Rattle.node_rules.specs.HearingRules.{dropped}
+use Rattle.node_rules.specs.JoiningPackets.{message}
 use Rattle.eap_psk.specs.Sessions.{peer_for, identifier_of}
 use Rattle.node_rules.specs.MemoryDrafts.{in_memory, goes_down, oldest, Unread, unread, packet_fault}
 use Rattle.node_rules.specs.Meters.{Hearing, Identity, drop_it, ends, carry_up, carries_down, carry_down, reply_with, reply, take_with, take_by, take, takes}

@@ -4,7 +4,7 @@ use Rattle.std.specs.Prelude.{is_some, ◌&&◌, nat_lt, ◌+◌, if◌then◌el
 use Rattle.std.specs.Option.{option_map_or}
 use Rattle.plc_base.specs.declared.address.Eui.{Eui}
 use Rattle.plc_base.specs.declared.key.Key.{Key}
-use Rattle.plc_base.specs.declared.key.Rand.{Rand}
+use Rattle.plc_base.specs.declared.key.RandomOctets.{RandomOctets}
 use Rattle.plc_base.specs.Grant.{Granted}
 use Rattle.group_keys.specs.declared.key_book.BookEntry.{BookEntry}
 use Rattle.group_keys.specs.KeyBook as book
@@ -12,7 +12,7 @@ use Rattle.group_keys.specs.KeyRing as ring
 use Rattle.joining_messages.specs.declared.message.JoinMessage.{JoinMessage}
 use Rattle.joining_messages.specs.declared.message.JoinBody.{JoinBody}
 use Rattle.joining_messages.specs.declared.message.JoinBody.TheVariants as body
-use Rattle.joining_messages.specs.Reading.{join_in}
+use Rattle.joining_messages.specs.Reader.{join_in}
 use Rattle.eap_psk.specs.declared.server.Server.{Server}
 use Rattle.node_rules.specs.Accepted.{Accepted}
 use Rattle.node_rules.specs.declared.heard.Heard.{Heard}
@@ -26,9 +26,9 @@ use Rattle.node_rules.specs.declared.refusal.CoordinatorRefusal.TheVariants as r
 use Rattle.node_rules.specs.Memory.{StationMemory, Memory, CoordinatorSession, next_hop}
 use Rattle.node_rules.specs.Plans.{Plan}
 use Rattle.node_rules.specs.Drafts.{counters_left, Draft, empty_draft, refused, sealing, checked, choose}
-use Rattle.node_rules.specs.Hearing as station_rules
-use Rattle.node_rules.specs.Hearing.{dropped}
-use Rattle.node_rules.specs.Joining.{message, server_for}
+use Rattle.node_rules.specs.HearingRules as station_rules
+use Rattle.node_rules.specs.HearingRules.{dropped}
+use Rattle.node_rules.specs.JoiningPackets.{message, server_for}
 use Rattle.eap_psk.specs.Sessions.{rand_p_in}
 use Rattle.node_rules.specs.MemoryDrafts.{with_memory_by, is_commanded, in_memory, oldest, Unread, unread}
 use Rattle.node_rules.specs.Coordinators.{CoordinatorIdentity, Hearing, drop_it, ends, session_of, allowed_entry, grant_for, declines, challenges, open_session}
@@ -80,7 +80,7 @@ module _ (own : CoordinatorIdentity) (m : Memory) where
   asked_shape : (way : Way) (eui : Eui) (now : ℕ) → IsRule (join_without_packet own m way eui now)
   asked_shape way eui now = chosen _ _ _ (open_shape way eui now) (declines_shape way _ now)
 
-  keys_shape : (s : CoordinatorSession) (e : BookEntry) (rand_p : Rand) (granted : Granted) (now : ℕ) → IsRule (keys_for own m s e rand_p granted now)
+  keys_shape : (s : CoordinatorSession) (e : BookEntry) (rand_p : RandomOctets) (granted : Granted) (now : ℕ) → IsRule (keys_for own m s e rand_p granted now)
   keys_shape s e rand_p granted now = by_way s.way refl
     where
       by_way : (way : Way) → s.way ≡ way → IsRule (keys_for own m s e rand_p granted now)
@@ -93,7 +93,7 @@ module _ (own : CoordinatorIdentity) (m : Memory) where
       (by_option (λ granted. keys_for own m s e (rand_p_in packet) granted now) (grant_for m s.server.eui) (drop_it m drops.NotAllowed)
       (λ granted. keys_shape s e _ granted now) (Rests _))
 
-  fourth_shape : (s : CoordinatorSession) (e : BookEntry) (packet : List ℕ) (rand_p : Rand) (now : ℕ) → IsRule (take_fourth own m s e packet rand_p now)
+  fourth_shape : (s : CoordinatorSession) (e : BookEntry) (packet : List ℕ) (rand_p : RandomOctets) (now : ℕ) → IsRule (take_fourth own m s e packet rand_p now)
   fourth_shape s e packet rand_p now = passed _ _ (by_way s.way refl)
     where
       by_way : (way : Way) → s.way ≡ way → IsRule (accepts m s rand_p now)

@@ -19,11 +19,11 @@ use Rattle.node_rules.specs.Memory.{StationMemory, Load, Command, Memory, addres
 use Rattle.node_rules.specs.Drafts.{Draft, empty_draft, tag_write, with_rank, with_own_number, with_next_tag, with_ring, with_routing_by, goes, body_goes}
 use Rattle.node_rules.specs.Drafts.{is_awaited, waits, seeks, seeks_once, sets_out, leave}
 use Rattle.node_rules.specs.MemoryDrafts.{on_station, station_part, with_memory_by, with_pair_tags, goes_up, goes_down, is_commanded}
-use Rattle.node_rules.specs.Joining.{command_of}
+use Rattle.node_rules.specs.JoiningPackets.{command_of}
 use Rattle.node_rules.specs.Calls.{idled}
 use Rattle.node_rules.specs.Coordinators.{with_book_entry}
 
--- at most so many puts were made
+-- at most this many puts were made
 abbrev pub AtMost : {M : Type 0} → ℕ → Draft M → Type 0
 AtMost n d = length d.puts ≤ n
 
@@ -106,7 +106,7 @@ sets_out_few n own to note load now d few = by_hop (next_hop d.memory to) refl
 pub record Does {M : Type 0} (d : Draft M) : Type 0 where
   pub few : AtMost 3 d
 
--- The same before its own number and what goes out, after so many puts at most.
+-- The same before its own number and what goes out, after this many puts at most.
 pub record Began {M : Type 0} (n : ℕ) (d : Draft M) : Type 0 where
   pub few : AtMost n d
 

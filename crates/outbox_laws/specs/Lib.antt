@@ -1,2 +1,2 @@
-pub mod Deferring
+pub mod DeferredPuts
 pub mod FewPuts

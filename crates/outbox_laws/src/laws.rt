@@ -1,5 +1,5 @@
 //! Laws of puts that are stored after the call: each carried by a function that does nothing.
-ghost use Rattle.outbox_laws.specs.Deferring.{DeferringPuts, CutsWhileStoring, ListedPutsAreThePlans, ListedPutsAreDeferred};
+ghost use Rattle.outbox_laws.specs.DeferredPuts.{DeferringPuts, CutsWhileStoring, ListedPutsAreThePlans, ListedPutsAreDeferred};
 ghost use Rattle.outbox_laws.specs.FewPuts.{HearingPutsFew, AMetersHearingPutsFew, ACoordinatorsHearingPutsFew, SendingPutsFew, JoiningPutsFew, OrdersPutFew};
 
 /// Puts may be stored after the call that made them. Where a call runs over a keeper in memory, and its owner stores the puts in order and

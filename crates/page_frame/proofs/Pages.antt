@@ -2,8 +2,8 @@
 use Rattle.std.proofs.Common.{◌≡◌, ℕ, List, [], ◌∷◌, ◌++◌, codes, refl, sym, ap, ◌∙◌, append_assoc, append-nil}
 use Rattle.markup.specs.declared.names.Element.TheVariants as E
 use Rattle.markup.specs.declared.names.Attribute.TheVariants as A
-use Rattle.markup.specs.Nesting.{IsContent, IsRaw, reached}
-use Rattle.markup.specs.Writing.{attribute_text, element_text, end_tag, tag_start}
+use Rattle.markup.specs.HtmlReader.{IsContent, IsRaw, reached}
+use Rattle.markup.specs.ElementTexts.{attribute_text, element_text, end_tag, tag_start}
 use Rattle.markup.proofs.Contents.{contents_join, elements_are_content, raw_elements_are_content}
 use Rattle.markup_parts.specs.Markups.{Words, Leaf, Inside, with_text}
 use Rattle.markup_parts.proofs.Markups.{markups_are_content}

@@ -2,7 +2,7 @@
 use Rattle.std.specs.Prelude.{ℕ, List, [], ◌∷◌, ◌++◌, codes}
 use Rattle.markup.specs.declared.names.Element.TheVariants as E
 use Rattle.markup.specs.declared.names.Attribute.TheVariants as A
-use Rattle.markup.specs.Writing.{attribute_text, element_text, end_tag, tag_start}
+use Rattle.markup.specs.ElementTexts.{attribute_text, element_text, end_tag, tag_start}
 use Rattle.markup_parts.specs.Markups.{Words, Leaf, Inside, markup_text, with_text}
 use Rattle.page_frame.specs.Style.{style_text}
 

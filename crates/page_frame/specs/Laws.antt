@@ -1,6 +1,6 @@
 -- A page nests.
 use Rattle.std.specs.Prelude.{ℕ, List, ◌++◌, ◌≡◌}
-use Rattle.markup.specs.Nesting.{IsContent}
+use Rattle.markup.specs.HtmlReader.{IsContent}
 use Rattle.page_frame.specs.Frames.{html, page_end, page_start, page_text}
 
 -- after the type of the document, a page closes all that it opens, where its content does

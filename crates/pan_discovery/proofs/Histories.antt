@@ -5,7 +5,7 @@ use Rattle.pan_discovery.specs.declared.agents.Agent.{Agent}
 use Rattle.pan_discovery.specs.Agents.{shown, agents_of, kth_of, agents_after}
 use Rattle.pan_discovery.specs.History.{Scanned, Entry, History, Begin, Clear, Beacon, scans, agents_since, after_history, LeadsOn}
 use Rattle.pan_discovery.specs.Laws.{OneMoreEntry, entry_after}
-use Rattle.pan_discovery.proofs.Hearing.{first_agents}
+use Rattle.pan_discovery.proofs.AgentPlaces.{first_agents}
 
 one_more_beacon : (scanning : Bool) (heard : List Agent) (a : Agent)
     → let agents : List Agent = take 16 (agents_of (if scanning then a ∷ heard else heard)) in

@@ -1,6 +1,6 @@
 mod Readings
 mod Orders
-mod Meaning
-mod Hearing
+mod AgentOrder
+mod AgentPlaces
 pub mod Histories
 mod Worked

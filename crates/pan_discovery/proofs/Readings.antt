@@ -13,7 +13,7 @@ use Rattle.plc_base.proofs.Places.{after_all, after_none, little_stands, little_
 use Rattle.pan_discovery.specs.declared.message.Discovery.{Discovery}
 use Rattle.pan_discovery.specs.declared.message.Discovery.TheVariants.{Request, Beacon}
 use Rattle.pan_discovery.specs.Messages.{IsDiscovery, SpellsDiscovery, role, request_spelling, beacon_spelling, discovery_spelling}
-use Rattle.pan_discovery.specs.Reading.{is_request, is_beacon, beacon_at, discovery_in}
+use Rattle.pan_discovery.specs.Reader.{is_request, is_beacon, beacon_at, discovery_in}
 use Rattle.pan_discovery.specs.Laws.{DiscoveriesAreRead, ReadDiscoveriesAreSpelled}
 
 -- # What is spelled is read

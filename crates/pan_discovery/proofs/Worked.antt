@@ -3,7 +3,7 @@ use Rattle.std.proofs.Common.{◌≡◌, ℕ, List, [], ◌∷◌, Some, None, r
 use Rattle.plc_base.specs.Fields.{octet, two, little_two}
 use Rattle.pan_discovery.specs.declared.message.Discovery.TheVariants.{Request, Beacon}
 use Rattle.pan_discovery.specs.Messages.{discovery_spelling}
-use Rattle.pan_discovery.specs.Reading.{is_request, is_beacon, discovery_in}
+use Rattle.pan_discovery.specs.Reader.{is_request, is_beacon, discovery_in}
 use Rattle.pan_discovery.specs.Agents.{shown, agents_of, kth_of}
 use Rattle.pan_discovery.specs.History.{History, Begin, Clear, Beacon as Heard, after_history, begun, ended, agents_since}
 

@@ -5,7 +5,7 @@ use Rattle.plc_base.specs.Fields.{AreOctets}
 use Rattle.pan_discovery.specs.declared.message.Discovery.{Discovery}
 use Rattle.pan_discovery.specs.declared.agents.Agent.{Agent}
 use Rattle.pan_discovery.specs.Messages.{SpellsDiscovery}
-use Rattle.pan_discovery.specs.Reading.{discovery_in}
+use Rattle.pan_discovery.specs.Reader.{discovery_in}
 use Rattle.pan_discovery.specs.Agents.{agents_of, agents_after}
 use Rattle.pan_discovery.specs.History.{Scanned, Entry, History, Begin, Clear, Beacon, begun, ended, taken_after, after_history}
 

@@ -1,5 +1,5 @@
 pub mod Messages
-pub mod Reading
+pub mod Reader
 pub mod Agents
 pub mod History
 pub mod Laws

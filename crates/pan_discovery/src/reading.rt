@@ -3,7 +3,7 @@ ghost use Rattle.std.specs.Prelude.{◌≡◌, IfSome, Some};
 ghost use Rattle.plc_base.specs.Faults.{ReadsWhen};
 ghost use Rattle.plc_base.specs.Fields.{octet, two, little_two};
 ghost use Rattle.pan_discovery.specs.Messages.{SpellsDiscovery, role};
-ghost use Rattle.pan_discovery.specs.Reading.{is_request, is_beacon, discovery_in};
+ghost use Rattle.pan_discovery.specs.Reader.{is_request, is_beacon, discovery_in};
 ghost use Rattle.pan_discovery.specs.declared.message.Discovery.{Discovery};
 ghost use Rattle.pan_discovery.specs.declared.message.Discovery.TheVariants.{Request, Beacon};
 
@@ -28,7 +28,7 @@ pub(crate) fn role_of(from: Short) -> u8
 }
 
 // The request that octets are.
-#[tactic(auto, unfolding(crate::specs::Reading::is_request))]
+#[tactic(auto, unfolding(crate::specs::Reader::is_request))]
 fn request_of(octets: &[u8]) -> Option<Discovery>
     ensures { ReadsWhen (is_request octets.now) result (λ message. message ≡ Request (octet 2 octets.now)) }
 {
@@ -52,7 +52,7 @@ fn request_of(octets: &[u8]) -> Option<Discovery>
 }
 
 // The beacon that octets are.
-#[tactic(auto, unfolding(crate::specs::Reading::is_beacon))]
+#[tactic(auto, unfolding(crate::specs::Reader::is_beacon))]
 fn beacon_of(octets: &[u8]) -> Option<Discovery>
     ensures { ReadsWhen (is_beacon octets.now) result
         (λ message. message
@@ -86,7 +86,7 @@ fn beacon_of(octets: &[u8]) -> Option<Discovery>
 }
 
 // The request or the beacon that octets are.
-#[tactic(auto, unfolding(crate::specs::Reading::discovery_in))]
+#[tactic(auto, unfolding(crate::specs::Reader::discovery_in))]
 fn discovery_of(octets: &[u8]) -> Option<Discovery>
     ensures { discovery_in octets.now ≡ result }
 {

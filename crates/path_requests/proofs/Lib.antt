@@ -1,3 +1,3 @@
-mod Walking
+mod WalkOctets
 pub mod Readings
 pub mod Steps

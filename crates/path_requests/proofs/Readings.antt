@@ -14,9 +14,9 @@ use Rattle.path_requests.specs.declared.message.PathMessage.{PathMessage}
 use Rattle.path_requests.specs.declared.message.PathMessage.TheVariants.{Ask, Tell}
 use Rattle.path_requests.specs.Walks.{has, is_walk, walk_octets, walk_at}
 use Rattle.path_requests.specs.Messages.{IsPath, SpellsPath, path_spelling}
-use Rattle.path_requests.specs.Reading.{asked_walk, tell_walk, is_ask, is_tell, message_of, path_in}
+use Rattle.path_requests.specs.Reader.{asked_walk, tell_walk, is_ask, is_tell, message_of, path_in}
 use Rattle.path_requests.specs.Laws.{PathsAreRead, ReadPathsAreSpelled}
-use Rattle.path_requests.proofs.Walking.{length-walk_at, length-walk_octets, walk_behind, walk_then}
+use Rattle.path_requests.proofs.WalkOctets.{length-walk_at, length-walk_octets, walk_behind, walk_then}
 
 -- # What is spelled is read
 

@@ -13,8 +13,8 @@ use Rattle.path_requests.specs.declared.step.PathStep.TheVariants.{Forward, Answ
 use Rattle.path_requests.specs.declared.step.PathRefusal.TheVariants.{Revisited, PathLong, BadUnit}
 use Rattle.path_requests.specs.Walks.{has, has_at, ends_with, is_walk}
 use Rattle.path_requests.specs.Messages.{IsPath}
-use Rattle.path_requests.specs.Taking.{hop, ask_led, ask_taken, tell_taken, taken, IsStep}
-use Rattle.path_requests.proofs.Walking.{same_both, walk_more}
+use Rattle.path_requests.specs.PathSteps.{hop, ask_led, ask_taken, tell_taken, taken, IsStep}
+use Rattle.path_requests.proofs.WalkOctets.{same_both, walk_more}
 
 -- a walk with an address that is not in it
 longer_walk : (own : ℕ) (walk : List ℕ) → IsAddress own → is_walk walk ≡ true → has own walk ≡ false → is_walk (walk ++ own ∷ []) ≡ true

@@ -3,7 +3,7 @@ use Rattle.std.specs.Prelude.{◌≡◌, ℕ, List, Some}
 use Rattle.plc_base.specs.Fields.{AreOctets}
 use Rattle.path_requests.specs.declared.message.PathMessage.{PathMessage}
 use Rattle.path_requests.specs.Messages.{SpellsPath}
-use Rattle.path_requests.specs.Reading.{path_in}
+use Rattle.path_requests.specs.Reader.{path_in}
 
 -- the message that octets spell is read out of them
 abbrev pub PathsAreRead : Type 0

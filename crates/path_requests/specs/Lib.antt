@@ -1,5 +1,5 @@
 pub mod Walks
 pub mod Messages
-pub mod Reading
+pub mod Reader
 pub mod Laws
-pub mod Taking
+pub mod PathSteps

@@ -8,7 +8,7 @@
 //! What its calls promise, by the names of their clauses:
 //!
 //! - What is read is what the octets spell, and each message is appended by its one spelling (`found`, `value`, `spelled`, `one_spelling`).
-//! - Each message goes the way that its rule says, `taken` of `specs/Taking.antt`, or is refused for the first reason (`step`, [`PathRefusal`]);
+//! - Each message goes the way that its rule says, `taken` of `specs/PathSteps.antt`, or is refused for the first reason (`step`, [`PathRefusal`]);
 //!   what goes on is a path message again (`message`).
 //!
 //! An ask takes 4 octets and two for each address, a tell 2 and two for each: 34 at most. No memory is taken, and there is no `unsafe`. It holds

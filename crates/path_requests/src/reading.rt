@@ -5,7 +5,7 @@ ghost use Rattle.plc_base.specs.Faults.{ReadsWhen};
 ghost use Rattle.plc_base.specs.Fields.{octet, two};
 ghost use Rattle.path_requests.specs.Walks.{has, is_walk, walk_at};
 ghost use Rattle.path_requests.specs.Messages.{SpellsPath};
-ghost use Rattle.path_requests.specs.Reading.{is_ask, is_tell, asked_walk, tell_walk, path_in};
+ghost use Rattle.path_requests.specs.Reader.{is_ask, is_tell, asked_walk, tell_walk, path_in};
 ghost use Rattle.path_requests.specs.declared.message.PathMessage.{PathMessage};
 ghost use Rattle.path_requests.specs.declared.message.PathMessage.TheVariants.{Ask, Tell};
 
@@ -34,7 +34,7 @@ fn extend(walk: &mut Walk, octets: &[u8], at: usize) -> bool
     true
 }
 
-// The walk of so many addresses from a place on.
+// The walk of this many addresses from a place on.
 fn walk_of(octets: &[u8], at: usize, count: usize) -> Option<Walk>
     requires within { at + 2 * count ≤ length octets.now }
     requires count { count ≤ 16 }
@@ -51,7 +51,7 @@ fn walk_of(octets: &[u8], at: usize, count: usize) -> Option<Walk>
 }
 
 // The ask that octets are whose first is 01.
-#[tactic(auto, unfolding(crate::specs::Reading::is_ask))]
+#[tactic(auto, unfolding(crate::specs::Reader::is_ask))]
 fn ask_of(octets: &[u8]) -> Option<PathMessage>
     ensures { ReadsWhen (is_ask octets.now) result
         (λ message. message ≡ Ask (two 1 octets.now) (asked_walk octets.now)) }
@@ -78,7 +78,7 @@ fn ask_of(octets: &[u8]) -> Option<PathMessage>
 }
 
 // The tell that octets are whose first is 02.
-#[tactic(auto, unfolding(crate::specs::Reading::is_tell))]
+#[tactic(auto, unfolding(crate::specs::Reader::is_tell))]
 fn tell_of(octets: &[u8]) -> Option<PathMessage>
     ensures { ReadsWhen (is_tell octets.now) result (λ message. message ≡ Tell (tell_walk octets.now)) }
 {
@@ -99,7 +99,7 @@ fn tell_of(octets: &[u8]) -> Option<PathMessage>
     Some(PathMessage::Tell { walk })
 }
 
-// The first octet, 0 where there is none.
+// The first octet, 0 if there is none.
 #[tactic(auto, unfolding(plc_base::specs::Fields::octet))]
 fn kind_of(octets: &[u8]) -> u8
     ensures { result ≡ octet 0 octets.now }
@@ -111,7 +111,7 @@ fn kind_of(octets: &[u8]) -> u8
 }
 
 // The message that the octets are.
-#[tactic(auto, unfolding(crate::specs::Reading::path_in))]
+#[tactic(auto, unfolding(crate::specs::Reader::path_in))]
 fn path_of(octets: &[u8]) -> Option<PathMessage>
     ensures { path_in octets.now ≡ result }
 {

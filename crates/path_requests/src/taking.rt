@@ -1,7 +1,7 @@
 //! What a node does with a path message that it hears.
 ghost use Rattle.std.specs.Prelude.{◌≡◌, ◌≤◌, Some, IfOk, length, position, ◌==◌};
 ghost use Rattle.path_requests.specs.Messages.{IsPath};
-ghost use Rattle.path_requests.specs.Taking as takings;
+ghost use Rattle.path_requests.specs.PathSteps as takings;
 
 use crate::message::PathMessage;
 use crate::step::{PathRefusal, PathStep};

@@ -5,7 +5,7 @@ use Rattle.std.proofs.Math.Seq.{drop-append_seam, take-append_seam}
 use Rattle.std.proofs.lemmas.Grind.{common_steps}
 use Rattle.byteorder.specs.Endian.{little_bytes, little_number}
 use Rattle.byteorder.specs.Numbers.{little_number-reads_back, length-bytes_low_first}
-use Rattle.pcapng.specs.Reading.{number_then, part_then, where_true, choose, and_then}
+use Rattle.pcapng.specs.Reader.{number_then, part_then, where_true, choose, and_then}
 
 pub leb_true : (m n : ℕ) → m ≤ n → nat_le m n ≡ true
 leb_true m n h = grind (arith, common_steps)

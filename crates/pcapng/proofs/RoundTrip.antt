@@ -7,8 +7,8 @@ use Rattle.byteorder.specs.Endian.{little_bytes}
 use Rattle.pcapng.specs.Blocks.{BlockOption, Block, Section, Interface, Packet, PACKET, padding, padding_length, option_spelling}
 use Rattle.pcapng.specs.Blocks.{options_spelling, ended, block_spelling, section_body, interface_body, packet_body, packet_front, kind_of, body_of, spelling}
 use Rattle.pcapng.specs.Blocks.{capture, AreOptions, IsBlock, AreBlocks}
-use Rattle.pcapng.specs.Reading.{number_then, choose, and_then, options_within, options_in, section_in, interface_in}
-use Rattle.pcapng.specs.Reading.{packet_in, body_in, block_then, blocks_within}
+use Rattle.pcapng.specs.Reader.{number_then, choose, and_then, options_within, options_in, section_in, interface_in}
+use Rattle.pcapng.specs.Reader.{packet_in, body_in, block_then, blocks_within}
 use Rattle.pcapng.specs.Laws.{CapturesAreReadBack}
 use Rattle.pcapng.proofs.Lengths.{length_of_padding, length_of_block, length_of_packet, length_of_ended}
 use Rattle.pcapng.proofs.Lengths.{length_of_option}

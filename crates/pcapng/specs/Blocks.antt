@@ -6,11 +6,11 @@ use Rattle.pcapng.specs.declared.options.Direction.TheVariants.{Inbound, Outboun
 
 -- # Padding
 
--- how many zeros follow so many octets, up to a multiple of four
+-- how many zeros follow this many octets, up to a multiple of four
 abbrev pub padding_length : ℕ → ℕ
 padding_length n = (4 - n % 4) % 4
 
--- the zeros after so many octets
+-- the zeros after this many octets
 unfoldable pub padding : ℕ → List ℕ
 padding n = take (padding_length n) (0 ∷ 0 ∷ 0 ∷ [])
 

@@ -1,7 +1,7 @@
 -- What is spelled is read back.
 use Rattle.std.specs.Prelude.{◌≡◌, ◌%◌, List, length, Some}
 use Rattle.pcapng.specs.Blocks.{Block, AreBlocks, spelling, capture}
-use Rattle.pcapng.specs.Reading.{blocks_in}
+use Rattle.pcapng.specs.Reader.{blocks_in}
 
 -- the blocks that octets spell are read out of them
 abbrev pub CapturesAreReadBack : Type 0

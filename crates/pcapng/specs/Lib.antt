@@ -1,3 +1,3 @@
 pub mod Blocks
-pub mod Reading
+pub mod Reader
 pub mod Laws

@@ -2,7 +2,7 @@
 //! interface and each packet.
 //!
 //! The format is that of draft-ietf-opsawg-pcapng, sections 3 and 4. `specs/Blocks.antt` says which octets spell which block, and
-//! `specs/Reading.antt` has a reader; what is spelled is read back.
+//! `specs/Reader.antt` has a reader; what is spelled is read back.
 #![tactic(auto)]
 
 mod blocks;

@@ -24,7 +24,7 @@ pub fn push_four(out: &mut Vec<u8>, number: u32) -> Result<(), AllocError>
     out.extend_from_slice(&octets)
 }
 
-// How many zeros follow so many octets, up to a multiple of four.
+// How many zeros follow this many octets, up to a multiple of four.
 pub fn padding_length(octets: usize) -> usize
     ensures { result ≡ padding_length octets }
 {

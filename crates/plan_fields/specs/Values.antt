@@ -12,7 +12,7 @@ abbrev pub ◌>>=◌ : {A B : Type 0} → Option A → (A → Option B) → Opti
 Some x >>= f = f x
 None >>= f = None
 
--- what is at most so much
+-- what is at most this much
 abbrev pub up_to : ℕ → ℕ → Option ℕ
 up_to most n = if nat_lt most n then None else Some n
 

@@ -8,7 +8,7 @@ use crate::fault::{Section, TextPlace};
 /// Where the search for a table stands.
 #[derive(Clone, Copy, Debug, PartialEq, Eq)]
 enum Search {
-    /// Before its header, with so many tables of the same name before it.
+    /// Before its header, with this many tables of the same name before it.
     Before(usize),
     /// Among its lines.
     Inside,

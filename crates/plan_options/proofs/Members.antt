@@ -89,7 +89,7 @@ by_parts path front back d members result some is = is ∙ ap (λ (p : Option (L
 
 -- # Options one after the other
 
--- options before which so many words stand
+-- options before which this many words stand
 abbrev pub rest_of : ℕ → List (String Global) → Members → Result Members OptionFault
 rest_of nth options members = with_options (2 * nth) (drop (2 * nth) options) members
 

@@ -100,7 +100,7 @@ option_line options (NoValue place) = codes "bad option: no value of TOML in " +
 option_line options (NoTable place) = codes "bad option: no table is named before the point in " ++ word_at options place ++ codes "\n"
 option_line options Memory = []
 
--- the line says the fault, which is not want of memory
+-- the line says the fault, which is not lack of memory
 abbrev pub IsFaultLine : PlanFault → List ℕ → Type 0
 IsFaultLine (faults.At place cause) line = line ≡ fault_line (faults.At place cause)
 IsFaultLine faults.Memory line = ⊥

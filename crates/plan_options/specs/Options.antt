@@ -79,7 +79,7 @@ with_option place name word members = do
   d ← ok_or (parse_value parts.1) (NoValue place)
   ok_or (with_path parts.0 d members) (NoTable place)
 
--- members as options change them, one after the other, where so many words stand before these
+-- members as options change them, one after the other, where this many words stand before these
 abbrev pub with_options : ℕ → List (String Global) → Members → Result Members OptionFault
 with_options place [] old = Ok old
 with_options place (name ∷ []) old = Ok old

@@ -5,7 +5,7 @@ ghost use Rattle.plan_options.specs.Descriptions.{GivesText, IsUnread};
 use plc_base::Source;
 use std::alloc::Global;
 
-/// A description has at most so many octets.
+/// A description has at most this many octets.
 pub const MAX_DESCRIPTION: usize = 16_777_216;
 
 /// Why there is no description.

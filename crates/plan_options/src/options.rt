@@ -206,7 +206,7 @@ fn with_option(
 
 /// A table as options change it, one after the other.
 ///
-/// The first option is refused that is of no form, has no value of TOML, or gives a key to what is no table.
+/// The first option is refused that is invalid, has no value of TOML, or gives a key to what is no table.
 pub fn with_options(
     alloc: Global,
     mut table: Table,

@@ -179,7 +179,7 @@ incident_with table outline nodes (Some what) = Err (wrong_at table keys.Nodes w
 incident_with table outline nodes None =
     Ok (record { at = outline.at; what = outline.what; nodes = nodes; meters = outline.meters })
 
--- of a line with so many meters at a place
+-- of a line with this many meters at a place
 unfoldable pub incident_at : ℕ → PlacePlan → TableAt → Result Incident WrongValue
 incident_at meters place table = do
   outline ← outline_at meters table

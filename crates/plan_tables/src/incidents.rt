@@ -49,9 +49,9 @@ pub enum What {
     MetersKicked,
     /// The group key of an index is changed.
     KeyChanges(u8),
-    /// An attacker gives nodes so many frames that it heard before.
+    /// An attacker gives nodes this many frames that it heard before.
     FramesReplayed(u32),
-    /// An attacker keeps what a node should hear for a time, and gives it to the node so many seconds after.
+    /// An attacker keeps what a node should hear for a time, and gives it to the node this many seconds after.
     FramesDelayed(u64, u64),
     /// An attacker asks to join in the name of meters.
     JoinsForged,
@@ -308,7 +308,7 @@ fn one_node(alloc: Global, of: NodesOf, value: &Value) -> Result<Option<NodeList
 }
 
 // The nodes of a value, which has to be an array.
-#[tactic(auto, unfolding(crate::specs::Incidents::some_nodes), using(crate::proofs::Listing::listed_view))]
+#[tactic(auto, unfolding(crate::specs::Incidents::some_nodes), using(crate::proofs::ArrayItems::listed_view))]
 fn some_nodes(alloc: Global, of: NodesOf, value: &Value) -> Result<Option<NodeList>, AllocError>
     ensures { IfOk result (λ read. read ≡ some_nodes of (view value.now)) }
 {

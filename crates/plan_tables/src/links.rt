@@ -156,7 +156,7 @@ fn with_meters(links: MeasuredLinks) -> Option<MeasuredLinks>
 }
 
 // The links of a value, which has to be an array of rows.
-#[tactic(auto, unfolding(crate::specs::Links::rows_in), using(crate::proofs::Listing::listed_view))]
+#[tactic(auto, unfolding(crate::specs::Links::rows_in), using(crate::proofs::ArrayItems::listed_view))]
 fn rows_in(alloc: Global, value: &Value, costs: &Costs) -> Result<Option<MeasuredLinks>, AllocError>
     ensures { IfOk result (λ links. links ≡ rows_in costs.now (view value.now)) }
 {

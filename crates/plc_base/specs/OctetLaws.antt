@@ -19,6 +19,6 @@ EachOctetFits = (at : ℕ) (octets : List ℕ) → AreOctets octets → octet at
 abbrev pub RestsAreOctets : Type 0
 RestsAreOctets = (at : ℕ) (octets : List ℕ) → AreOctets octets → AreOctets (after at octets)
 
--- so many octets from a place on
+-- this many octets from a place on
 abbrev pub PartsAreOctets : Type 0
 PartsAreOctets = (at n : ℕ) (octets : List ℕ) → AreOctets octets → AreOctets (part at n octets)

@@ -21,24 +21,24 @@ impl fmt::Debug for Key {
 
 /// A random value of an EAP-PSK session: 16 octets (RFC 4764, 5.1).
 #[derive(Clone, Copy, PartialEq, Eq)]
-pub struct Rand(pub [u8; 16]);
+pub struct RandomOctets(pub [u8; 16]);
 
-impl fmt::Debug for Rand {
-    ghost debug_output = { λ _. Some (codes "Rand(..)") };
+impl fmt::Debug for RandomOctets {
+    ghost debug_output = { λ _. Some (codes "RandomOctets(..)") };
 
     /// Shows that it is a random value, and not its octets: they are secret as long as their session is open.
     fn fmt<W: fmt::Write>(&self, f: &mut fmt::Formatter<W>) -> fmt::Result
-        ensures styled { WritesStyledOnOk W.write_str_gives f.old result (codes "Rand(..)") f.new }
+        ensures styled { WritesStyledOnOk W.write_str_gives f.old result (codes "RandomOctets(..)") f.new }
     {
-        f.write_str("Rand(..)")
+        f.write_str("RandomOctets(..)")
     }
 }
 
-impl Default for Rand {
+impl Default for RandomOctets {
     /// A blank of zeros, for an unused place.
-    fn default() -> Rand
+    fn default() -> RandomOctets
         ensures { result.0 ≡ replicate 16 0 }
     {
-        Rand([0; 16])
+        RandomOctets([0; 16])
     }
 }

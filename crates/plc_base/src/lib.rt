@@ -3,9 +3,9 @@
 //! In the order in which firmware meets them:
 //!
 //! - [`Eui`], [`Short`], [`PAN`] and [`LinkCost`] say who a node is and what a link costs, [`Destination`] where a frame goes,
-//!   [`Key`], [`KeyIndex`], [`Rand`] and [`Grant`] what a node is given. `Short::new`, `LinkCost::new`, `KeyIndex::new` and
+//!   [`Key`], [`KeyIndex`], [`RandomOctets`] and [`Grant`] what a node is given. `Short::new`, `LinkCost::new`, `KeyIndex::new` and
 //!   `Destination::new` are None exactly for the numbers that are no address, no cost, no index and no destination (`valid`).
-//! - [`Octets`] holds at most so many octets in place: [`FrameBuf`] 400, [`DatagramBuf`] 1,280, [`EapBuf`] 128, [`Record`] 64.
+//! - [`Octets`] holds at most this many octets in place: [`FrameBuf`] 400, [`DatagramBuf`] 1,280, [`EapBuf`] 128, [`Record`] 64.
 //!   [`OctetRef`] refers to octets that stand elsewhere. A contract sees the list of the octets.
 //! - [`Keeper`] is the trait that firmware writes over its flash: `get` and `put` of a record at a slot. [`MemKeeper`] is one
 //!   in memory, for tests and for simulated lines; it can be set to lose power at a put.
@@ -58,7 +58,7 @@ pub use fields::{
 };
 pub use grant::Grant;
 pub use keeper::{BadStore, Cut, Keeper};
-pub use key::{Key, Rand};
+pub use key::{Key, RandomOctets};
 pub use key_index::KeyIndex;
 pub use limits::{GREATEST_COUNTER, LONGEST_DATAGRAM, LONGEST_FRAME, MOST_FRAMES};
 pub use link_cost::LinkCost;

@@ -70,7 +70,7 @@ fn reach(cells: &mut Vec<Option<Record>>, place: usize)
 }
 
 impl MemKeeper {
-    /// A keeper with no record and no loss of power to come. It fails only for want of memory.
+    /// A keeper with no record and no loss of power to come. It fails only for lack of memory.
     pub fn new(alloc: Global) -> Result<MemKeeper, AllocError>
         ensures { IfOk result (λ keeper. keeper ≡ record { records = map.empty; faults = 0; known_cut = Some None; listed = None }) }
     {

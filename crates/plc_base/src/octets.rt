@@ -142,7 +142,7 @@ impl<const N: usize> Octets<N> {
         self.append(&four_octets(number));
     }
 
-    /// The same octets again. Unlike `Clone` it has no answer for want of memory, since it takes none.
+    /// The same octets again. Unlike `Clone` it has no answer for lack of memory, since it takes none.
     pub fn copied(&self) -> Octets<N>
         ensures { result ≡ self.now }
     {

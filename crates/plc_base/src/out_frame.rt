@@ -62,7 +62,7 @@ impl Model for OutFrames {
     ghost invariant = { λ f. (f.used ≤ MOST_FRAMES) × (length f.places.items ≡ MOST_FRAMES) };
 }
 
-// So many blanks as a step has frames.
+// This many blanks as a step has frames.
 fn blanks(alloc: Global) -> Result<Vec<OutFrame>, AllocError>
     ensures { IfOk result (λ frames. length frames.items ≡ MOST_FRAMES) }
 {

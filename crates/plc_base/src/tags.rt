@@ -2,7 +2,7 @@
 ghost use Rattle.std.specs.Prelude.{◌≡◌, ◌<◌, ◌≤◌, ◌==◌, ◌++◌, ◌∷◌, [], length};
 ghost use Rattle.plc_base.specs.Tags.{IsTag, blank_tag, tag_octets};
 
-use crate::{Eui, Octets, Rand};
+use crate::{Eui, Octets, RandomOctets};
 use arrayvec::ArrayVec;
 use std::marker::Model;
 
@@ -35,7 +35,7 @@ pub enum PairTag {
         /// The node.
         eui: Eui,
         /// RAND_P, of which the channel's key is made.
-        rand_p: Rand,
+        rand_p: RandomOctets,
         /// The nonce: 0 from the coordinator, 1 from the node.
         nonce: u32,
         /// The packet's first 22 octets, which the tag covers.

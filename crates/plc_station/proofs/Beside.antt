@@ -7,9 +7,9 @@ use Rattle.node_rules.specs.Memory.{StationMemory}
 use Rattle.node_rules.specs.Plans.{Plan}
 use Rattle.node_rules.specs.Drafts.{Ends, refused}
 use Rattle.node_rules.specs.States.{State}
-use Rattle.node_rules.specs.Carrying.{nothing}
+use Rattle.node_rules.specs.CarriedPlans.{nothing}
 use Rattle.node_rules.specs.Neighbours.{CarriesAfter, followed}
-use Rattle.plc_station.proofs.Ending.{refusal}
+use Rattle.plc_station.proofs.EndedSteps.{refusal}
 
 pub after_by : {A : Type 0} (s t : State StationMemory) (p q : Plan StationMemory A) (answer : A) (before out : Out) → p ≡ q
     → CarriesAfter s p answer before out t → CarriesAfter s q answer before out t

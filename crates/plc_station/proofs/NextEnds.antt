@@ -3,8 +3,8 @@ use Rattle.std.proofs.Common.{◌≡◌, ℕ, ◌<◌, Bool, true, false, Option
 use Rattle.std.specs.Prelude.{◌==◌, if◌then◌else◌, min, unwrap_or}
 use Rattle.std.proofs.lemmas.Bool.{eqb-true}
 use Rattle.plc_base.proofs.EarlierEnds.{earlier}
-use Rattle.fragment_buffers.specs.Taking.{unexpired}
-use Rattle.fragment_buffers.specs.Waiting.{still_waiting}
+use Rattle.fragment_buffers.specs.PieceIntake.{unexpired}
+use Rattle.fragment_buffers.specs.WaitingBodies.{still_waiting}
 use Rattle.routing_set.specs.RoutingSet.{expired}
 use Rattle.station_queues.specs.Bodies.{Held}
 use Rattle.node_rules.specs.Calls as calls

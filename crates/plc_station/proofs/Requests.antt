@@ -15,8 +15,8 @@ use Rattle.node_rules.specs.Memory.{StationMemory}
 use Rattle.node_rules.specs.Drafts.{UnsealedUnit, alone, empty_draft, choose, checked, goes, send_message, leave, with_own_number, with_rank, numbers_spent}
 use Rattle.node_rules.specs.Drafts.{counters_left}
 use Rattle.node_rules.specs.Drafts.{refused, sealing}
-use Rattle.node_rules.specs.Hearing.{dropped, rank_fault, hear_request, offers, offers_numbered}
-use Rattle.fragment_buffers.specs.Waiting.{leaving}
+use Rattle.node_rules.specs.HearingRules.{dropped, rank_fault, hear_request, offers, offers_numbered}
+use Rattle.fragment_buffers.specs.WaitingBodies.{leaving}
 use Rattle.plc_station.proofs.Ways.{sealed_spent, sealed_fits}
 
 abbrev one : ℕ → Message → List UnsealedUnit

@@ -8,7 +8,7 @@ use Rattle.std.proofs.lemmas.Option.{slice_get-map, get_or_from_slice_get, slice
 use Rattle.store_tables.specs.SlotTables.{Layout, IsTable, place_of, entry_of}
 use Rattle.plc_base.specs.Orders.{ordered_by}
 use Rattle.store_tables.proofs.SlotTables.{found}
-use Rattle.store_tables.proofs.Finding.{sorted_find}
+use Rattle.store_tables.proofs.FoundEntries.{sorted_find}
 use Rattle.frame_counters.specs.PeerMarks.{Table, peers, mark_of, peer_at}
 use Rattle.routing_set.specs.declared.rank.Rank.{Rank}
 use Rattle.routing_set.specs.declared.entry.Route.{Route}
@@ -19,7 +19,7 @@ use Rattle.node_rules.specs.declared.shown.ShownPeer.{ShownPeer}
 use Rattle.plc_base.specs.Grant.{Granted}
 use Rattle.node_rules.specs.Memory.{StationMemory, next_hop}
 use Rattle.node_rules.specs.Neighbours.{valid_route}
-use Rattle.node_rules.specs.Showing.{shown_route, shown_peer}
+use Rattle.node_rules.specs.ShownNodes.{shown_route, shown_peer}
 
 -- # One entry after another
 

@@ -9,19 +9,19 @@ use Rattle.node_rules.specs.declared.heard.SentHow.{SentHow}
 use Rattle.node_rules.specs.declared.refusal.SendRefusal.{SendRefusal}
 use Rattle.plc_base.specs.declared.out_frame.Out.{Out}
 use Rattle.node_rules.specs.States.{State}
-use Rattle.node_rules.specs.Carrying.{Carries, nothing}
-use Rattle.plc_station.proofs.Carrying.{resting_carried}
+use Rattle.node_rules.specs.CarriedPlans.{Carries, nothing}
+use Rattle.plc_station.proofs.CarriedPlans.{resting_carried}
 use Rattle.node_rules.specs.Memory.{StationMemory, Datagram, next_hop}
 use Rattle.node_rules.specs.Plans.{Plan}
-use Rattle.node_rules.specs.Accepting.{is_own}
+use Rattle.node_rules.specs.Acceptance.{is_own}
 use Rattle.node_rules.specs.Drafts.{Draft, Ends, alone, empty_draft, body_goes, waits, seeks, seeks_once, lack, no_room, numbers_spent, is_awaited}
 use Rattle.node_rules.specs.Drafts.{counters_left, refused, sealing, sealed, checked, goes, with_own_number}
 use Rattle.node_rules.specs.Calls.{sending_ends, send, send_from, tag_taken}
 use Rattle.node_rules.proofs.Sizes.{length-all_go, length-units_of}
 use Rattle.plc_station.specs.declared.next_steps.NextStep.{NextStep}
 use Rattle.plc_station.specs.NextSteps.{next_step, stepping}
-use Rattle.plc_station.proofs.Stepping as step
-use Rattle.plc_station.proofs.Tagging.{tagged_is}
+use Rattle.plc_station.proofs.NextStepCases as step
+use Rattle.plc_station.proofs.LoadTags.{tagged_is}
 
 -- # Sealing, by the counters that are left
 

@@ -1,6 +1,6 @@
-pub mod StationReading
+pub mod StationViews
 pub mod OpenFaults
-pub mod Sealing
+pub mod SentFrames
 pub mod Pieces
 pub mod Heard
 pub mod Rooms
@@ -10,5 +10,5 @@ pub mod Sizes
 pub mod Offers
 pub mod NextSteps
 pub mod OwnLoads
-pub mod Rising
+pub mod RisingLists
 pub mod NextEnds

@@ -23,11 +23,11 @@ step_by l to octets frames (Some hop) = if nat_lt (counters_left l) frames then 
 step_by l to octets frames None =
     step_without (no_room l octets) (is_awaited l to) (numbers_spent l) (nat_lt (counters_left l) 1)
 
--- what a body of so many octets for an address would do, where it goes out in so many frames
+-- what a body of this many octets for an address would do, where it goes out in this many frames
 abbrev pub next_step : StationMemory → (to octets frames : ℕ) → Result NextStep SendRefusal
 next_step l to octets frames = step_by l to octets frames (next_hop l to)
 
--- There is room for a body of so many octets, an own number, and a counter.
+-- There is room for a body of this many octets, an own number, and a counter.
 pub record CanSeek (l : StationMemory) (octets : ℕ) : Type 0 where
   pub room : no_room l octets ≡ false
   pub number : l.own_number.last < 65535

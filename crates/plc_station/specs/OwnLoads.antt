@@ -12,7 +12,7 @@ use Rattle.node_rules.specs.Calls.{tag_taken}
 use Rattle.plc_station.specs.declared.loads.LoadKind.{LoadKind}
 use Rattle.plc_station.specs.declared.loads.LoadKind.TheVariants.{Datagram, Command}
 
--- so many octets may go out as a load
+-- this many octets may go out as a load
 pub record IsLoad (kind : LoadKind) (octets : ℕ) : Type 0 where
   pub some : 1 ≤ octets
   pub fits : octets ≤ LONGEST_DATAGRAM
@@ -27,12 +27,12 @@ own_tag Command next = None
 abbrev pub own_load : LoadKind → List ℕ → ℕ → Load
 own_load kind octets next = load_of (own_tag kind next) octets
 
--- in how many frames one of so many octets goes out
+-- in how many frames one of this many octets goes out
 abbrev pub own_frames : LoadKind → ℕ → ℕ
 own_frames Datagram octets = pieces_of octets
 own_frames Command octets = 1
 
--- what is stored before one of so many octets has its tag
+-- what is stored before one of this many octets has its tag
 abbrev pub own_write : LoadKind → ℕ → ℕ → Option Write
 own_write Datagram octets next = take_write octets next
 own_write Command octets next = None

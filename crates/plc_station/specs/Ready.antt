@@ -4,7 +4,7 @@ use Rattle.plc_base.specs.Grant.{Granted}
 use Rattle.plc_base.specs.declared.out_frame.Out.{Out}
 use Rattle.node_rules.specs.Memory.{StationMemory}
 use Rattle.node_rules.specs.States.{State}
-use Rattle.node_rules.specs.Carrying.{nothing}
+use Rattle.node_rules.specs.CarriedPlans.{nothing}
 use Rattle.node_rules.specs.Agreement.{Agrees}
 
 -- It is not halted, and what it holds as stored is what its store gives.

@@ -1,8 +1,8 @@
 -- How much a station holds.
 use Rattle.std.specs.Prelude.{◌≤◌, length}
 use Rattle.std.specs.List.{All}
-use Rattle.fragment_buffers.specs.Taking.{blocks_held}
-use Rattle.fragment_buffers.specs.Waiting.{Body}
+use Rattle.fragment_buffers.specs.PieceIntake.{blocks_held}
+use Rattle.fragment_buffers.specs.WaitingBodies.{Body}
 use Rattle.node_rules.specs.Laws.{WaitingFits}
 use Rattle.node_rules.specs.Memory.{StationMemory}
 use Rattle.node_rules.specs.Tables.{HasShortTables}

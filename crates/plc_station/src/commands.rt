@@ -1,7 +1,7 @@
 //! Commands that a station sends over the mesh.
 ghost use Rattle.std.specs.Prelude.{◌≡◌, ◌≤◌, Err, IfSome, IfNone, length};
 ghost use Rattle.node_rules.specs.Calls as calls;
-ghost use Rattle.node_rules.specs.Carrying.{Carries, nothing};
+ghost use Rattle.node_rules.specs.CarriedPlans.{Carries, nothing};
 ghost use Rattle.node_rules.specs.Agreement.{Agrees};
 ghost use Rattle.plc_station.specs.Ready.{After, ReadyToSend};
 ghost use Rattle.plc_station.specs.Rooms.{room_answer};
@@ -71,7 +71,7 @@ impl<K: Keeper + Drop> Station<K> {
         refusal_of(self.next_step(to, usize::from(octets), 1))
     }
 
-    /// What a command of so many octets for an address would be refused for. The own address is treated as any other.
+    /// What a command of this many octets for an address would be refused for. The own address is treated as any other.
     ///
     /// Halted, NotJoined, WaitingFull, SeqSpent, CounterSpent, in this order.
     pub fn room(&self, to: Short, octets: u16) -> Result<(), SendRefusal>

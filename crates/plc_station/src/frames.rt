@@ -1,6 +1,6 @@
 //! Which frames a station accepts.
 ghost use Rattle.std.specs.Prelude.{◌≡◌, ◌==◌, ◌||◌, ◌+◌, ◌<◌, ◌≤◌, true, false, Some, None, Ok, Err, IfSome, IsSome, ◌++◌, [], IfNone, IfOk, OnErr, length};
-ghost use Rattle.node_rules.specs.Carrying.{Carries, nothing};
+ghost use Rattle.node_rules.specs.CarriedPlans.{Carries, nothing};
 ghost use Rattle.node_rules.specs.Agreement.{Agrees};
 ghost use Rattle.plc_station.specs.Ready.{After, Ready};
 ghost use Rattle.plc_station.specs.Heard.{FitsPath, accepted_on};
@@ -8,7 +8,7 @@ ghost use Rattle.group_keys.specs.KeyRing as ring;
 ghost use Rattle.mac_frames.specs.Grammar.{Frame, IsSealed};
 ghost use Rattle.node_rules.specs.Ciphers.{network};
 ghost use Rattle.node_rules.specs.Frames.{arrived, arrived_with};
-ghost use Rattle.node_rules.specs.Accepting as accepting;
+ghost use Rattle.node_rules.specs.Acceptance as acceptance;
 ghost use Rattle.node_rules.specs.Laws.{WaitingFits};
 ghost use Rattle.plc_base.specs.declared.limits.TheConstants.{LONGEST_FRAME};
 
@@ -30,7 +30,7 @@ fn hold(octets: &[u8], buffer: &mut FrameBuf)
 
 // What the marks say of a counter.
 fn mark_refusal(fault: PeerFault) -> FrameRefusal
-    ensures { result ≡ accepting.mark_refusal fault }
+    ensures { result ≡ acceptance.mark_refusal fault }
 {
     match fault {
         PeerFault::Replayed => FrameRefusal::Replayed,
@@ -42,7 +42,7 @@ fn mark_refusal(fault: PeerFault) -> FrameRefusal
 impl<K: Keeper + Drop> Station<K> {
     // Whether an address is the own one.
     pub(crate) fn is_own(&self, address: u16) -> bool
-        ensures { IfSome self.now.memory (λ l. result ≡ accepting.is_own l address) }
+        ensures { IfSome self.now.memory (λ l. result ≡ acceptance.is_own l address) }
     {
         match self.parts.ring.joined() {
             Some(own) => own.number() == address,
@@ -52,7 +52,7 @@ impl<K: Keeper + Drop> Station<K> {
 
     // Whether a frame is for this node and from another one.
     fn is_for_me(&self, head: &MacHead) -> bool
-        ensures { IfSome self.now.memory (λ l. result ≡ accepting.is_for_me l self.now.eui head.now) }
+        ensures { IfSome self.now.memory (λ l. result ≡ acceptance.is_for_me l self.now.eui head.now) }
     {
         match *head {
             MacHead::Sealed { pan, to, from, .. } => {
@@ -79,7 +79,7 @@ impl<K: Keeper + Drop> Station<K> {
     ) -> Result<Path, FrameRefusal>
         requires ready { Ready self.old }
         ensures carries { IfSome self.old.memory
-            (λ l. Carries self.old (accepting.admit l from counter (record { path = path; payload = payload.now }))
+            (λ l. Carries self.old (acceptance.admit l from counter (record { path = path; payload = payload.now }))
             (accepted_on result payload.now) nothing self.new) }
         ensures after { After self.old self.new }
         ensures same { IfOk result (λ on. on ≡ path) }
@@ -110,7 +110,7 @@ impl<K: Keeper + Drop> Station<K> {
         requires sealed { IsSealed raw.now.head }
         requires frame { Frame raw.now.head raw.now.body.now (raw.now.header.now ++ raw.now.body.now) }
         ensures carries { IfSome self.old.memory (λ l. Carries self.old
-            (accepting.with_key l
+            (acceptance.with_key l
             (arrived_with network raw.now.head raw.now.header.now raw.now.body.now) to from counter
             (ring.key_in_ring l.ring index))
             (accepted_on result payload.new) nothing self.new) }
@@ -138,7 +138,7 @@ impl<K: Keeper + Drop> Station<K> {
         requires ready { Ready self.old }
         requires frame { Frame raw.now.head raw.now.body.now (raw.now.header.now ++ raw.now.body.now) }
         ensures carries { IfSome self.old.memory (λ l. Carries self.old
-            (accepting.accept l self.old.eui (Some (arrived_with network raw.now.head raw.now.header.now raw.now.body.now)))
+            (acceptance.accept l self.old.eui (Some (arrived_with network raw.now.head raw.now.header.now raw.now.body.now)))
             (accepted_on result payload.new) nothing self.new) }
         ensures after { After self.old self.new }
         ensures fits { IfOk result (λ path. FitsPath path (length payload.new)) }
@@ -171,7 +171,7 @@ impl<K: Keeper + Drop> Station<K> {
         requires agrees { Agrees self.old }
         ensures halted { IfNone self.old.memory ((result ≡ Err FrameRefusal.Halted) × (self.new ≡ self.old)) }
         ensures carries { IfSome self.old.memory
-            (λ l. Carries self.old (accepting.accept l self.old.eui
+            (λ l. Carries self.old (acceptance.accept l self.old.eui
             (arrived network octets.now)) (accepted_on result payload.new) nothing self.new) }
         ensures after { After self.old self.new }
         ensures fits { IfOk result (λ path. FitsPath path (length payload.new)) }
@@ -191,7 +191,7 @@ impl<K: Keeper + Drop> Station<K> {
         requires agrees { Agrees self.old }
         ensures halted { IfNone self.old.memory ((result ≡ Err FrameRefusal.Halted) × (self.new ≡ self.old)) }
         ensures carries { IfSome self.old.memory
-            (λ l. Carries self.old (accepting.accept l self.old.eui
+            (λ l. Carries self.old (acceptance.accept l self.old.eui
             (arrived network octets.now)) (accepted_on result payload.new) nothing self.new) }
         ensures after { After self.old self.new }
         ensures fits { IfOk result (λ path. FitsPath path (length payload.new)) }
@@ -219,7 +219,7 @@ impl<K: Keeper + Drop> Station<K> {
         requires agrees { Agrees self.old }
         ensures halted { IfNone self.old.memory ((result ≡ Err FrameRefusal.Halted) × (self.new ≡ self.old)) }
         ensures carries { IfSome self.old.memory
-            (λ l. Carries self.old (accepting.accept l self.old.eui
+            (λ l. Carries self.old (acceptance.accept l self.old.eui
             (arrived network octets.now)) result nothing self.new) }
         ensures after { After self.old self.new }
         ensures running { IfOk result (λ _. IsSome self.new.memory) }

@@ -1,14 +1,14 @@
 //! What a station makes of a frame that it accepted.
 ghost use Rattle.std.specs.Prelude.{◌≡◌, ◌==◌, ◌+◌, ◌<◌, ◌≤◌, Some, None, Ok, Err, IfSome, length};
 ghost use Rattle.mesh_header.specs.Grammar.{IsAllowed, spelled_length};
-ghost use Rattle.mesh_header.specs.Reading as units;
+ghost use Rattle.mesh_header.specs.Reader as units;
 ghost use Rattle.loadng_messages.specs.Grammar as messages;
-ghost use Rattle.node_rules.specs.Hearing as hearing;
-ghost use Rattle.node_rules.specs.Carrying.{Carries};
+ghost use Rattle.node_rules.specs.HearingRules as hearing;
+ghost use Rattle.node_rules.specs.CarriedPlans.{Carries};
 ghost use Rattle.plc_station.specs.Hears.{Hears};
 ghost use Rattle.node_rules.specs.Agreement.{Agrees};
 ghost use Rattle.plc_station.specs.Ready.{Ready, ReadyToAnswer, ReadyToSend};
-ghost use Rattle.loadng_messages.specs.Reading as reading;
+ghost use Rattle.loadng_messages.specs.Reader as reader;
 ghost use Rattle.node_rules.specs.Replies.{reply_sent};
 ghost use Rattle.plc_base.specs.declared.limits.TheConstants.{LONGEST_FRAME};
 
@@ -35,7 +35,7 @@ fn unit_in(octets: &[u8]) -> Option<Unit<'_>>
 
 // The message that octets are, if they are one.
 fn message_in(octets: &[u8]) -> Option<Message>
-    ensures message { result ≡ reading.message_in octets.now }
+    ensures message { result ≡ reader.message_in octets.now }
     ensures allowed { IfSome result (λ m. messages.IsAllowed m) }
 {
     match read_message(octets) {

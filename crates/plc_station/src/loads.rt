@@ -5,7 +5,7 @@ ghost use Rattle.fragment_buffers.specs.NextTag.{AgreesWith};
 ghost use Rattle.node_rules.specs.Drafts as drafts;
 ghost use Rattle.node_rules.specs.Calls as calls;
 ghost use Rattle.node_rules.specs.declared.heard.SentHow.TheVariants as how;
-ghost use Rattle.node_rules.specs.Carrying.{Carries};
+ghost use Rattle.node_rules.specs.CarriedPlans.{Carries};
 ghost use Rattle.plc_station.specs.OwnLoads.{IsLoad, own_tag, own_load, own_frames, own_write, own_tag_left, own_draft};
 ghost use Rattle.plc_station.specs.NextSteps.{next_step, stepping};
 ghost use Rattle.plc_station.specs.Ready.{After, ReadyToAnswer, ReadyToSend};
@@ -25,7 +25,7 @@ pub enum LoadKind {
     Command,
 }
 
-// In how many frames a load of so many octets goes out.
+// In how many frames a load of this many octets goes out.
 fn frames_in(kind: LoadKind, octets: usize) -> u32
     requires some { 1 ≤ octets }
     requires fits { octets ≤ LONGEST_DATAGRAM }
@@ -37,7 +37,7 @@ fn frames_in(kind: LoadKind, octets: usize) -> u32
     }
 }
 
-// The tag of a load of so many octets, if it has one. Where a datagram goes in pieces, the tag after its own is stored and then held.
+// The tag of a load of this many octets, if it has one. Where a datagram goes in pieces, the tag after its own is stored and then held.
 //
 // Only a failed put is an error. The tag is then as it was, but may not be used until it is opened again.
 fn take_tag<K: Keeper>(

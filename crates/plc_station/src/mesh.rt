@@ -9,8 +9,8 @@ ghost use Rattle.node_rules.specs.declared.heard.Way.TheVariants as way;
 ghost use Rattle.node_rules.specs.declared.refusal.Dropped.TheVariants as hearing_drops;
 ghost use Rattle.node_rules.specs.Memory.{next_hop};
 ghost use Rattle.node_rules.specs.Drafts as drafts;
-ghost use Rattle.node_rules.specs.Hearing as hearing;
-ghost use Rattle.node_rules.specs.Carrying.{Carries};
+ghost use Rattle.node_rules.specs.HearingRules as hearing_rules;
+ghost use Rattle.node_rules.specs.CarriedPlans.{Carries};
 ghost use Rattle.plc_station.specs.Ready.{After, ReadyToSend};
 ghost use Rattle.plc_base.specs.declared.limits.TheConstants.{GREATEST_COUNTER};
 
@@ -36,7 +36,7 @@ pub(crate) fn error_unit<'a>(lost: Short, to: Short, body: &'a mut MessageBuf) -
 
 // A mesh header with one hop less.
 fn hop_less(mesh: &Mesh) -> Mesh
-    ensures value { result ≡ hearing.hop_less mesh.now }
+    ensures value { result ≡ hearing_rules.hop_less mesh.now }
     ensures shorter { header_length result.hops ≤ header_length mesh.now.hops }
 {
     Mesh {
@@ -82,7 +82,7 @@ impl<K: Keeper + Drop> Station<K> {
         requires fits { spelled_length unit.now ≤ 381 }
         requires left { IfSome self.old.memory (λ l. l.counter.next + 1 ≤ GREATEST_COUNTER) }
         ensures carries { IfSome self.old.memory
-            (λ l. Carries self.old (drafts.sealing drafts.alone hearing.dropped
+            (λ l. Carries self.old (drafts.sealing drafts.alone hearing_rules.dropped
             (drafts.goes to unit.now note (drafts.empty_draft l)) tt) result out.new self.new) }
         ensures after { After self.old self.new }
     {
@@ -107,8 +107,8 @@ impl<K: Keeper + Drop> Station<K> {
         requires ready { ReadyToSend self.old grant.now out.old }
         ensures carries { IfSome self.old.memory
             (λ l. Carries self.old (drafts.choose (mesh.now.origin == grant.now.address)
-            (hearing.drop_it l hearing_drops.NoRoute)
-            (hearing.report_by l mesh.now (next_hop l mesh.now.origin))) result out.new self.new) }
+            (hearing_rules.drop_it l hearing_drops.NoRoute)
+            (hearing_rules.report_by l mesh.now (next_hop l mesh.now.origin))) result out.new self.new) }
         ensures after { After self.old self.new }
     {
         if mesh.origin.number() == grant.address.number() {
@@ -143,7 +143,7 @@ impl<K: Keeper + Drop> Station<K> {
         requires fits { spelled_length unit.now ≤ 381 }
         ensures carries { IfSome self.old.memory
             (λ l. Carries self.old
-            (hearing.forward l grant.now.address mesh.now unit.now note) result out.new self.new) }
+            (hearing_rules.forward l grant.now.address mesh.now unit.now note) result out.new self.new) }
         ensures after { After self.old self.new }
     {
         let left = self.parts.counter.left();
@@ -176,7 +176,7 @@ impl<K: Keeper + Drop> Station<K> {
         requires fits { spelled_length unit.now ≤ 381 }
         ensures carries { IfSome self.old.memory
             (λ l. Carries self.old
-            (hearing.hear_over_mesh l grant.now.address unit.now last.now.note last.now.time) result out.new self.new) }
+            (hearing_rules.hear_over_mesh l grant.now.address unit.now last.now.note last.now.time) result out.new self.new) }
         ensures after { After self.old self.new }
     {
         match unit {

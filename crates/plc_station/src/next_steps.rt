@@ -27,7 +27,7 @@ pub(crate) fn refusal_of(step: Result<NextStep, SendRefusal>) -> Result<(), Send
 }
 
 impl<K: Keeper + Drop> Station<K> {
-    // What a body of so many octets for an address would do, where it goes out in so many frames. WaitingFull, SeqSpent, CounterSpent,
+    // What a body of this many octets for an address would do, where it goes out in this many frames. WaitingFull, SeqSpent, CounterSpent,
     // in this order.
     pub(crate) fn next_step(
         &self,

@@ -2,7 +2,7 @@
 ghost use Rattle.std.specs.Prelude.{◌≡◌, ◌==◌, ◌+◌, ◌||◌, ◌≤◌, not, IfOk, IfSome};
 ghost use Rattle.std.specs.Result.{result_err};
 ghost use Rattle.routing_set.specs.RoutingSet as routing;
-ghost use Rattle.node_rules.specs.Hearing as hearing;
+ghost use Rattle.node_rules.specs.HearingRules as hearing_rules;
 ghost use Rattle.plc_station.specs.Offers.{CanBeKept, offer_of, offered_rank};
 
 use crate::station::Station;
@@ -73,7 +73,7 @@ impl<K: Keeper + Drop> Station<K> {
         offered: &Offered,
     ) -> Result<Offer, Dropped>
         requires valid { 1 ≤ offered.now.number }
-        ensures fault { IfSome self.now.memory (λ l. hearing.rank_fault l grant.now.address offered.now.origin
+        ensures fault { IfSome self.now.memory (λ l. hearing_rules.rank_fault l grant.now.address offered.now.origin
             (offered_rank offered.now) last.now.time ≡ result_err result) }
         ensures offer { IfOk result (λ offer. offer ≡ offer_of last.now offered.now) }
         ensures kept { IfOk result (λ offer. IfSome self.now.memory (λ l. CanBeKept l.routing offer)) }

@@ -1,9 +1,9 @@
 //! What a station makes of route replies for its own address.
 ghost use Rattle.std.specs.Prelude.{◌+◌, ◌<◌, ◌≤◌, true, false, Ok, Err, IfSome, length};
 ghost use Rattle.node_rules.specs.Drafts as drafts;
-ghost use Rattle.node_rules.specs.Hearing as hearing;
-ghost use Rattle.fragment_buffers.specs.Waiting.{leaving};
-ghost use Rattle.node_rules.specs.Carrying.{Carries};
+ghost use Rattle.node_rules.specs.HearingRules as hearing_rules;
+ghost use Rattle.fragment_buffers.specs.WaitingBodies.{leaving};
+ghost use Rattle.node_rules.specs.CarriedPlans.{Carries};
 ghost use Rattle.plc_station.specs.Ready.{After, ReadyToSend};
 ghost use Rattle.plc_station.specs.Offers.{CanBeKept, offered_rank};
 ghost use Rattle.plc_base.specs.declared.limits.TheConstants.{GREATEST_COUNTER};
@@ -20,8 +20,8 @@ impl<K: Keeper + Drop> Station<K> {
         requires offer { IfSome self.old.memory (λ l. CanBeKept l.routing offer.now) }
         requires left { IfSome self.old.memory
             (λ l. l.counter.next + length (leaving grant.now.address offer.now.origin offer.now.by l.waiting) ≤ GREATEST_COUNTER) }
-        ensures carries { IfSome self.old.memory (λ l. Carries self.old (drafts.sealing drafts.alone hearing.dropped
-            (hearing.offers grant.now.address offer.now.origin offer.now.rank offer.now.by offer.now.time l) tt) result out.new self.new) }
+        ensures carries { IfSome self.old.memory (λ l. Carries self.old (drafts.sealing drafts.alone hearing_rules.dropped
+            (hearing_rules.offers grant.now.address offer.now.origin offer.now.rank offer.now.by offer.now.time l) tt) result out.new self.new) }
         ensures after { After self.old self.new }
     {
         self.halted = true;
@@ -67,9 +67,9 @@ impl<K: Keeper + Drop> Station<K> {
         requires ready { ReadyToSend self.old grant.now out.old }
         requires valid { 1 ≤ offered.now.number }
         ensures carries { IfSome self.old.memory (λ l. Carries self.old
-            (drafts.checked hearing.dropped l
-            (hearing.rank_fault l grant.now.address offered.now.origin (offered_rank offered.now) last.now.time)
-            (hearing.learns l grant.now.address last.now.by offered.now.origin
+            (drafts.checked hearing_rules.dropped l
+            (hearing_rules.rank_fault l grant.now.address offered.now.origin (offered_rank offered.now) last.now.time)
+            (hearing_rules.learns l grant.now.address last.now.by offered.now.origin
             (offered_rank offered.now) last.now.time)) result out.new self.new) }
         ensures after { After self.old self.new }
     {

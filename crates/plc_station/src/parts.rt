@@ -3,10 +3,10 @@ ghost use Rattle.std.specs.Prelude.{◌≡◌, Ok, Err, MatchResult, IfOk, OnOk}
 ghost use Rattle.store_tables.specs.SlotTables.{IsGapless};
 ghost use Rattle.frame_counters.specs.PeerMarks.{peers};
 ghost use Rattle.routing_set.specs.RoutingSet.{ranks};
-ghost use Rattle.node_rules.specs.StoreReading.{station_of};
+ghost use Rattle.node_rules.specs.RestartStates.{station_of};
 ghost use Rattle.node_rules.specs.Agreement.{AgreesWith};
 ghost use Rattle.plc_station.specs.OpenFaults.{IsOpeningFault};
-ghost use Rattle.plc_station.specs.StationReading.{station_in, no_bodies};
+ghost use Rattle.plc_station.specs.StationViews.{station_in, no_bodies};
 
 use fragment_buffers::NextTag;
 use frame_counters::{PeerMarks, SendCounter};
@@ -29,7 +29,7 @@ pub struct Parts {
 
 impl Parts {
     /// What the records of a keeper give. BadStore where one of them has no reading, Memory where there is none for the tables.
-    #[tactic(auto, unfolding(node_rules::specs::StoreReading::station_of))]
+    #[tactic(auto, unfolding(node_rules::specs::RestartStates::station_of))]
     pub(crate) fn open<K: Keeper>(alloc: Global, keeper: &K) -> Result<Parts, OpenFault>
         ensures station { MatchResult result
             (λ p. station_of (K.store keeper.now).records ≡ Ok (station_in p no_bodies))
@@ -55,7 +55,7 @@ impl Parts {
 
     /// The same, into parts that there are already, so that it takes no memory. After BadStore they may not be used until they are read
     /// again.
-    #[tactic(auto, unfolding(node_rules::specs::StoreReading::station_of))]
+    #[tactic(auto, unfolding(node_rules::specs::RestartStates::station_of))]
     pub(crate) fn reload<K: Keeper>(&mut self, keeper: &K) -> Result<(), BadStore>
         ensures station { MatchResult result
             (λ _. station_of (K.store keeper.now).records ≡ Ok (station_in self.new no_bodies))

@@ -1,8 +1,8 @@
 //! What a station makes of pieces of datagrams.
 ghost use Rattle.std.specs.Prelude.{◌≡◌, ◌+◌, ◌<◌, Ok, Err, IfSome};
-ghost use Rattle.node_rules.specs.Hearing as hearing;
+ghost use Rattle.node_rules.specs.HearingRules as hearing_rules;
 ghost use Rattle.plc_station.specs.Pieces as pieces;
-ghost use Rattle.node_rules.specs.Carrying.{Carries};
+ghost use Rattle.node_rules.specs.CarriedPlans.{Carries};
 ghost use Rattle.plc_station.specs.Ready.{After, ReadyToAnswer};
 
 use crate::station::Station;
@@ -43,7 +43,7 @@ impl<K: Keeper + Drop> Station<K> {
     ) -> Result<Heard<'a>, Dropped>
         requires ready { ReadyToAnswer self.old out.now }
         ensures carries { IfSome self.old.memory
-            (λ l. Carries self.old (hearing.gather l from piece.now note now) result out.now self.new) }
+            (λ l. Carries self.old (hearing_rules.gather l from piece.now note now) result out.now self.new) }
         ensures after { After self.old self.new }
     {
         let taken = self.bodies.gather(from, piece, note, now, datagram);

@@ -1,11 +1,11 @@
 //! A frame that comes: accepted and heard in one call.
 ghost use Rattle.std.specs.Prelude.{◌≡◌, Err, IfNone, IfSome};
-ghost use Rattle.node_rules.specs.Accepting as accepting;
+ghost use Rattle.node_rules.specs.Acceptance as acceptance;
 ghost use Rattle.node_rules.specs.Agreement.{Agrees};
-ghost use Rattle.node_rules.specs.Carrying.{nothing};
+ghost use Rattle.node_rules.specs.CarriedPlans.{nothing};
 ghost use Rattle.node_rules.specs.Ciphers.{network};
 ghost use Rattle.node_rules.specs.Frames.{arrived};
-ghost use Rattle.node_rules.specs.Hearing as hearing;
+ghost use Rattle.node_rules.specs.HearingRules as hearing_rules;
 ghost use Rattle.node_rules.specs.Receives.{Receives};
 
 use crate::station::Station;
@@ -49,8 +49,8 @@ impl<K: Keeper + Drop> Station<K> {
         requires agrees { Agrees self.old }
         ensures halted { IfNone self.old.memory ((result ≡ Err Unheard.Halted) × (out.new ≡ nothing) × (self.new ≡ self.old)) }
         ensures received { IfSome self.old.memory (λ l. Receives
-            (accepting.accept l self.old.eui (arrived network octets.now))
-            (λ got k. hearing.hear k got came.cost came.note came.time) self.old result out.new self.new) }
+            (acceptance.accept l self.old.eui (arrived network octets.now))
+            (λ got k. hearing_rules.hear k got came.cost came.note came.time) self.old result out.new self.new) }
         ensures agrees { Agrees self.new }
     {
         out.clear();

@@ -3,9 +3,9 @@ ghost use Rattle.std.specs.Prelude.{◌+◌, ◌<◌, ◌≤◌, true, false, Ok
 ghost use Rattle.loadng_messages.specs.Grammar as messages;
 ghost use Rattle.loadng_messages.specs.declared.message.Message.TheVariants as message;
 ghost use Rattle.node_rules.specs.Drafts as drafts;
-ghost use Rattle.node_rules.specs.Hearing as hearing;
-ghost use Rattle.fragment_buffers.specs.Waiting.{leaving};
-ghost use Rattle.node_rules.specs.Carrying.{Carries};
+ghost use Rattle.node_rules.specs.HearingRules as hearing_rules;
+ghost use Rattle.fragment_buffers.specs.WaitingBodies.{leaving};
+ghost use Rattle.node_rules.specs.CarriedPlans.{Carries};
 ghost use Rattle.plc_station.specs.Ready.{After, ReadyToSend};
 ghost use Rattle.plc_station.specs.Offers.{CanBeKept};
 ghost use Rattle.node_rules.specs.Frames.{to_all};
@@ -34,8 +34,8 @@ impl<K: Keeper + Drop> Station<K> {
         requires offer { IfSome self.old.memory (λ l. CanBeKept l.routing offer.now) }
         requires left { IfSome self.old.memory
             (λ l. l.counter.next + (length (leaving grant.now.address offer.now.origin offer.now.by l.waiting) + 1) ≤ GREATEST_COUNTER) }
-        ensures carries { IfSome self.old.memory (λ l. Carries self.old (drafts.sealing drafts.alone hearing.dropped
-            (drafts.send_message to message.now (hearing.offers grant.now.address offer.now.origin offer.now.rank offer.now.by offer.now.time l)) tt)
+        ensures carries { IfSome self.old.memory (λ l. Carries self.old (drafts.sealing drafts.alone hearing_rules.dropped
+            (drafts.send_message to message.now (hearing_rules.offers grant.now.address offer.now.origin offer.now.rank offer.now.by offer.now.time l)) tt)
             result out.new self.new) }
         ensures after { After self.old self.new }
         ensures message { IfOk result (λ u. messages.IsMessage message.now) }
@@ -83,9 +83,9 @@ impl<K: Keeper + Drop> Station<K> {
         requires offer { IfSome self.old.memory (λ l. CanBeKept l.routing offer.now) }
         requires left { IfSome self.old.memory
             (λ l. l.counter.next + (length (leaving grant.now.address offer.now.origin offer.now.by l.waiting) + 1) ≤ GREATEST_COUNTER) }
-        ensures carries { IfSome self.old.memory (λ l. Carries self.old (drafts.sealing drafts.alone hearing.dropped
+        ensures carries { IfSome self.old.memory (λ l. Carries self.old (drafts.sealing drafts.alone hearing_rules.dropped
             (drafts.send_message to_all (message.Rreq offer.now.rank.number offer.now.rank.cost offer.now.origin dest)
-            (hearing.offers grant.now.address offer.now.origin offer.now.rank offer.now.by offer.now.time l)) tt) result out.new self.new) }
+            (hearing_rules.offers grant.now.address offer.now.origin offer.now.rank offer.now.by offer.now.time l)) tt) result out.new self.new) }
         ensures after { After self.old self.new }
     {
         let request = Message::Rreq {

@@ -3,9 +3,9 @@ ghost use Rattle.std.specs.Prelude.{◌≡◌, ◌+◌, ◌≤◌, IfSome, Some}
 ghost use Rattle.loadng_messages.specs.declared.message.Message.TheVariants as message;
 ghost use Rattle.node_rules.specs.declared.heard.Heard.TheVariants as heard;
 ghost use Rattle.node_rules.specs.Drafts as drafts;
-ghost use Rattle.node_rules.specs.Hearing as hearing;
+ghost use Rattle.node_rules.specs.HearingRules as hearing_rules;
 ghost use Rattle.routing_set.specs.RoutingSet as routes;
-ghost use Rattle.node_rules.specs.Carrying.{Carries};
+ghost use Rattle.node_rules.specs.CarriedPlans.{Carries};
 ghost use Rattle.plc_station.specs.Ready.{After, ReadyToAnswer, ReadyToSend};
 ghost use Rattle.plc_base.specs.declared.limits.TheConstants.{GREATEST_COUNTER};
 
@@ -37,8 +37,8 @@ impl<K: Keeper + Drop> Station<K> {
     fn lose(&mut self, by: Short, lost: Short, out: &Out) -> Result<Heard<'static>, Dropped>
         requires ready { ReadyToAnswer self.old out.now }
         ensures carries { IfSome self.old.memory
-            (λ l. Carries self.old (drafts.sealing drafts.alone hearing.dropped
-            (hearing.loses lost by l) heard.Broken) result out.now self.new) }
+            (λ l. Carries self.old (drafts.sealing drafts.alone hearing_rules.dropped
+            (hearing_rules.loses lost by l) heard.Broken) result out.now self.new) }
         ensures after { After self.old self.new }
     {
         self.parts.routing.invalidate(lost, by);
@@ -57,8 +57,8 @@ impl<K: Keeper + Drop> Station<K> {
     ) -> Result<Heard<'static>, Dropped>
         requires ready { ReadyToSend self.old grant.now out.old }
         requires left { IfSome self.old.memory (λ l. l.counter.next + 1 ≤ GREATEST_COUNTER) }
-        ensures carries { IfSome self.old.memory (λ l. Carries self.old (drafts.sealing drafts.alone hearing.dropped
-            (drafts.send_message hop (message.Rerr lost to) (hearing.loses lost by l)) heard.Broken) result out.new self.new) }
+        ensures carries { IfSome self.old.memory (λ l. Carries self.old (drafts.sealing drafts.alone hearing_rules.dropped
+            (drafts.send_message hop (message.Rerr lost to) (hearing_rules.loses lost by l)) heard.Broken) result out.new self.new) }
         ensures after { After self.old self.new }
     {
         self.halted = true;
@@ -93,7 +93,7 @@ impl<K: Keeper + Drop> Station<K> {
     ) -> Result<Heard<'static>, Dropped>
         requires ready { ReadyToSend self.old grant.now out.old }
         ensures carries { IfSome self.old.memory
-            (λ l. Carries self.old (hearing.hear_error l grant.now.address by lost to) result out.new self.new) }
+            (λ l. Carries self.old (hearing_rules.hear_error l grant.now.address by lost to) result out.new self.new) }
         ensures after { After self.old self.new }
     {
         let left = self.parts.counter.left();

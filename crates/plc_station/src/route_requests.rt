@@ -2,9 +2,9 @@
 ghost use Rattle.std.specs.Prelude.{◌≡◌, ◌==◌, ◌+◌, ◌<◌, ◌≤◌, true, false, Some, None, Ok, Err, IfSome, length};
 ghost use Rattle.loadng_messages.specs.declared.message.Message.TheVariants as message;
 ghost use Rattle.node_rules.specs.Drafts as drafts;
-ghost use Rattle.node_rules.specs.Hearing as hearing;
-ghost use Rattle.fragment_buffers.specs.Waiting.{leaving};
-ghost use Rattle.node_rules.specs.Carrying.{Carries};
+ghost use Rattle.node_rules.specs.HearingRules as hearing_rules;
+ghost use Rattle.fragment_buffers.specs.WaitingBodies.{leaving};
+ghost use Rattle.node_rules.specs.CarriedPlans.{Carries};
 ghost use Rattle.plc_station.specs.Hears.{Hears, reply_sent_by};
 ghost use Rattle.node_rules.specs.Agreement.{Agrees};
 ghost use Rattle.plc_station.specs.Ready.{ReadyToSend};
@@ -28,13 +28,13 @@ impl<K: Keeper + Drop> Station<K> {
         requires left { IfSome self.old.memory
             (λ l. l.counter.next + (length (leaving grant.now.address offer.now.origin offer.now.by l.waiting) + 1) ≤ GREATEST_COUNTER) }
         requires fresh { self.old.replied ≡ None }
-        ensures carries { IfSome self.old.memory (λ l. Carries self.old (drafts.sealing drafts.alone hearing.dropped
+        ensures carries { IfSome self.old.memory (λ l. Carries self.old (drafts.sealing drafts.alone hearing_rules.dropped
             (drafts.send_message offer.now.by (message.Rrep (l.own_number.last + 1) 0 grant.now.address offer.now.origin)
-            (hearing.offers_numbered grant.now.address offer.now.origin offer.now.rank offer.now.by offer.now.time l)) tt) result out.new self.new) }
+            (hearing_rules.offers_numbered grant.now.address offer.now.origin offer.now.rank offer.now.by offer.now.time l)) tt) result out.new self.new) }
         ensures agrees { Agrees self.new }
         ensures replied { IfSome self.old.memory (λ l. self.new.replied ≡ reply_sent_by
             (drafts.send_message offer.now.by (message.Rrep (l.own_number.last + 1) 0 grant.now.address offer.now.origin)
-            (hearing.offers_numbered grant.now.address offer.now.origin offer.now.rank offer.now.by offer.now.time l)) self.new.memory) }
+            (hearing_rules.offers_numbered grant.now.address offer.now.origin offer.now.rank offer.now.by offer.now.time l)) self.new.memory) }
     {
         self.halted = true;
         let Ok(()) = self.parts.routing.keep(
@@ -93,7 +93,7 @@ impl<K: Keeper + Drop> Station<K> {
         requires valid { 1 ≤ offered.now.number }
         requires fresh { self.old.replied ≡ None }
         ensures hears { IfSome self.old.memory
-            (λ l. Hears self.old (hearing.hear_request l grant.now.address last.now.by offered.now.origin dest
+            (λ l. Hears self.old (hearing_rules.hear_request l grant.now.address last.now.by offered.now.origin dest
             (offered_rank offered.now) last.now.time) result out.new self.new) }
         ensures agrees { Agrees self.new }
     {

@@ -5,13 +5,13 @@ ghost use Rattle.mesh_header.specs.declared.unit.Unit.TheVariants as mesh;
 ghost use Rattle.loadng_messages.specs.Grammar as messages;
 ghost use Rattle.loadng_messages.specs.declared.message.Message.TheVariants as message;
 ghost use Rattle.fragment_buffers.specs.Loads.{load_of, units_in};
-ghost use Rattle.fragment_buffers.specs.Waiting.{leaving, waits_for};
+ghost use Rattle.fragment_buffers.specs.WaitingBodies.{leaving, waits_for};
 ghost use Rattle.node_rules.specs.Ciphers.{network};
 ghost use Rattle.node_rules.specs.Frames.{spelled};
 ghost use Rattle.node_rules.specs.Drafts as drafts;
-ghost use Rattle.node_rules.specs.Carrying.{nothing};
+ghost use Rattle.node_rules.specs.CarriedPlans.{nothing};
 ghost use Rattle.node_rules.specs.Frames.{to_all};
-ghost use Rattle.plc_station.specs.Sealing.{only_frames};
+ghost use Rattle.plc_station.specs.SentFrames.{only_frames};
 ghost use Rattle.plc_base.specs.declared.limits.TheConstants.{GREATEST_COUNTER, LONGEST_DATAGRAM, MOST_FRAMES};
 ghost use Rattle.station_queues.specs.declared.bodies.TheConstants.{LONGEST_COMMAND};
 

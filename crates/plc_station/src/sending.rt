@@ -1,7 +1,7 @@
 //! What a station sends by itself.
 ghost use Rattle.std.specs.Prelude.{◌≡◌, ◌==◌, ◌||◌, nat_lt, Err, IfSome, IfNone, length};
 ghost use Rattle.node_rules.specs.Calls as calls;
-ghost use Rattle.node_rules.specs.Carrying.{Carries, nothing};
+ghost use Rattle.node_rules.specs.CarriedPlans.{Carries, nothing};
 ghost use Rattle.node_rules.specs.Agreement.{Agrees};
 ghost use Rattle.plc_station.specs.Ready.{After, ReadyToSend};
 ghost use Rattle.plc_base.specs.declared.limits.TheConstants.{LONGEST_DATAGRAM};

@@ -3,16 +3,16 @@ ghost use Rattle.std.specs.Prelude.{◌≡◌, ◌+◌, ◌<◌, ◌≤◌, map,
 ghost use Rattle.std.specs.Option.{option_map};
 ghost use Rattle.plc_base.specs.Orders.{ordered_by};
 ghost use Rattle.store_tables.specs.SlotTables.{entry_of};
-ghost use Rattle.plc_station.specs.Rising.{is_above, is_rising_after};
+ghost use Rattle.plc_station.specs.RisingLists.{is_above, is_rising_after};
 ghost use Rattle.plc_station.specs.Sizes.{HasSizes};
 ghost use Rattle.frame_counters.specs.PeerMarks.{peers};
 ghost use Rattle.routing_set.specs.RoutingSet.{ranks, next_of};
 ghost use Rattle.node_rules.specs.Neighbours.{valid_route};
-ghost use Rattle.node_rules.specs.Showing.{shown_station, nothing_shown, shown_route, shown_peer};
+ghost use Rattle.node_rules.specs.ShownNodes.{shown_station, nothing_shown, shown_route, shown_peer};
 ghost use Rattle.plc_base.specs.declared.limits.TheConstants.{GREATEST_COUNTER};
 
 use crate::station::Station;
-use frame_counters::{Peer, PeerMarks};
+use frame_counters::{PeerMark, PeerMarks};
 use group_keys::KeyRing;
 use node_rules::{Shown, ShownPeer, ShownPeers, ShownRoute, ShownRoutes};
 use plc_base::{Eui, Keeper, KeyIndex, Short};
@@ -112,7 +112,7 @@ fn show_sorted_routes(routing: &RoutingSet, out: &mut ShownRoutes)
 }
 
 // Shows the kept ranks, in the order of their addresses.
-#[tactic(auto, using(crate::proofs::Rising::rising))]
+#[tactic(auto, using(crate::proofs::RisingLists::rising))]
 fn show_routes(routing: &RoutingSet, out: &mut ShownRoutes)
     ensures { out.new ≡ map shown_route (ordered_by (λ e. e.address) routing.now.entries) }
 {
@@ -124,7 +124,7 @@ fn show_routes(routing: &RoutingSet, out: &mut ShownRoutes)
 }
 
 // Shows the marks, in the order of their slots.
-fn show_marks(marks: &[Peer], out: &mut ShownPeers)
+fn show_marks(marks: &[PeerMark], out: &mut ShownPeers)
     requires { length marks.now ≤ 64 }
     ensures { out.new ≡ map shown_peer marks.now }
 {
@@ -162,7 +162,7 @@ fn show_sorted_peers(marks: &PeerMarks, out: &mut ShownPeers)
 }
 
 // Shows the marks, in the order of their senders.
-#[tactic(auto, using(crate::proofs::Rising::rising))]
+#[tactic(auto, using(crate::proofs::RisingLists::rising))]
 fn show_peers(marks: &PeerMarks, out: &mut ShownPeers)
     ensures { out.new ≡ map shown_peer (ordered_by (λ p. p.address) marks.now) }
 {

@@ -5,9 +5,9 @@ ghost use Rattle.std.specs.Option.{option_map};
 ghost use Rattle.store_tables.specs.SlotTables.{IsGapless};
 ghost use Rattle.frame_counters.specs.PeerMarks.{peers};
 ghost use Rattle.routing_set.specs.RoutingSet.{ranks};
-ghost use Rattle.node_rules.specs.StoreReading.{station_of};
+ghost use Rattle.node_rules.specs.RestartStates.{station_of};
 ghost use Rattle.node_rules.specs.Agreement.{Agrees};
-ghost use Rattle.plc_station.specs.StationReading.{if_read, read_answer};
+ghost use Rattle.plc_station.specs.StationViews.{if_read, read_answer};
 ghost use Rattle.plc_station.specs.OpenFaults.{IsOpenFault};
 
 use crate::parts::Parts;
@@ -60,7 +60,7 @@ impl<K: Keeper + Drop> Model for Station<K> {
 
     ghost coded = { station_state_code };
 
-    ghost use Rattle.plc_station.specs.StationReading.{station_in};
+    ghost use Rattle.plc_station.specs.StationViews.{station_in};
 
     ghost view = { λ s. record {
       store = K.store s.keeper;

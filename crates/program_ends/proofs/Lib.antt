@@ -1,2 +1,2 @@
 pub mod Causes
-mod Writing
+mod WrittenTexts

@@ -2,7 +2,7 @@
 use std::alloc::AllocError;
 use std::{env, io};
 
-/// The words after the program's name. A word that is no text is of no form, so it stands for none at all.
+/// The words after the program's name. A word that is no text is invalid, so it stands for none at all.
 pub fn words(rt: &HostRuntime) -> Result<Vec<String>, AllocError> {
     let mut words = Vec::new(rt.alloc());
     let args = match env::args(rt) {

@@ -11,7 +11,7 @@ pub enum Status {
     Fine,
     /// 1: a line of the script is bad, or a description or an option, and what is wrong with it was written.
     BadScript,
-    /// 2: the words are of no form, and the usage line was written; or they ask for what a run does not have, and a line says what it has.
+    /// 2: the words are invalid, and the usage line was written; or they ask for what a run does not have, and a line says what it has.
     Usage,
     /// 3: there was not enough memory.
     Memory,

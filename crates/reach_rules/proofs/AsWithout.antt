@@ -5,17 +5,17 @@ use Rattle.std.specs.Option.{option_map_or}
 use Rattle.std.specs.Ordering.{nat_cmp}
 use Rattle.std.specs.FinMap.{empty, get-empty}
 use Rattle.store_tables.specs.SlotTables as slots
-use Rattle.store_tables.proofs.Opening.{opened_from-empty}
+use Rattle.store_tables.proofs.OpenedTables.{opened_from-empty}
 use Rattle.mesh_header.specs.declared.unit.Unit.{Unit as MeshUnit}
 use Rattle.mesh_header.specs.declared.unit.Unit.TheVariants as units
-use Rattle.mesh_header.specs.Reading.{unit_in}
+use Rattle.mesh_header.specs.Reader.{unit_in}
 use Rattle.neighbour_checks.specs.Acks.{ack_in}
 use Rattle.neighbour_checks.specs.Neighbours.{Neighbours, is_awaited, acked_after}
 use Rattle.store_tables.specs.Numberings.{counting_at, counting_from}
 use Rattle.broadcast_log.specs.NextNumber.{numbering_in, limit_at, limit_in, limit_slot}
 use Rattle.broadcast_log.specs.OriginMarks.{marks}
 use Rattle.pan_discovery.specs.History.{Scanned}
-use Rattle.pan_discovery.specs.Reading.{discovery_in}
+use Rattle.pan_discovery.specs.Reader.{discovery_in}
 use Rattle.pan_discovery.specs.declared.message.Discovery.{Discovery}
 use Rattle.pan_discovery.specs.declared.message.Discovery.TheVariants as frames
 use Rattle.node_rules.specs.Accepted.{Accepted}
@@ -27,7 +27,7 @@ use Rattle.node_rules.specs.declared.refusal.Dropped.TheVariants as drops
 use Rattle.node_rules.specs.Memory.{StationMemory, Role, address_of}
 use Rattle.node_rules.specs.Plans.{Plan, resting}
 use Rattle.node_rules.specs.Drafts.{StationPlace, choose}
-use Rattle.node_rules.specs.Hearing.{Hearing, drop_it, hear_sealed, hear_unit_in}
+use Rattle.node_rules.specs.HearingRules.{Hearing, drop_it, hear_sealed, hear_unit_in}
 use Rattle.node_rules.specs.MemoryDrafts.{in_memory}
 use Rattle.node_rules.specs.Meters as meters
 use Rattle.node_rules.specs.Coordinators as coordinator_rules
@@ -39,7 +39,7 @@ use Rattle.reach_rules.specs.ReachingNodes as reaching
 use Rattle.reach_rules.specs.CheckedReplies.{hear_acknowledgement, hear_acknowledgement_in}
 use Rattle.reach_rules.specs.Beacons.{hear_discovery_in, cost_to_coordinator, beacons, is_foreign, takes_beacons, takes_beacon}
 use Rattle.reach_rules.specs.Beacons as discovering
-use Rattle.reach_rules.specs.Receiving.{NeighbourCommand, command_of, command_on, hear_by}
+use Rattle.reach_rules.specs.FurtherReceptions.{NeighbourCommand, command_of, command_on, hear_by}
 use Rattle.reach_rules.specs.Laws.{DoesAsWithout, HearsAsWithout, NodesHearAsWithout, CommandsAreHandedOn, NothingIsAwaited, NobodyIsListedByTime}
 use Rattle.reach_rules.specs.Laws.{NoScanHearsNothing, AnEmptyStoreGivesNothing, unawaited}
 

@@ -14,7 +14,7 @@ use Rattle.group_keys.specs.KeyRing as ring
 use Rattle.neighbour_checks.specs.Acks.{ack_in}
 use Rattle.broadcast_log.specs.declared.broadcast.Broadcast.{Broadcast}
 use Rattle.broadcast_log.specs.Grammar.{spelling}
-use Rattle.broadcast_log.specs.Reading.{broadcast_in}
+use Rattle.broadcast_log.specs.Reader.{broadcast_in}
 use Rattle.store_tables.specs.Numberings.{passes, limit_write, raised}
 use Rattle.broadcast_log.specs.NextNumber.{Numbering, limit_at, number_put}
 use Rattle.broadcast_log.specs.OriginMarks.{OriginMark, Marks, marks, place_of, mark_at, mark_ahead, keep_write, kept_after}
@@ -22,8 +22,8 @@ use Rattle.path_requests.specs.declared.message.PathMessage.{PathMessage}
 use Rattle.path_requests.specs.declared.step.PathStep.{PathStep}
 use Rattle.path_requests.specs.declared.step.PathStep.TheVariants.{Forward, Answer, Done}
 use Rattle.path_requests.specs.declared.step.PathRefusal.{PathRefusal}
-use Rattle.path_requests.specs.Reading.{path_in}
-use Rattle.path_requests.specs.Taking.{taken}
+use Rattle.path_requests.specs.Reader.{path_in}
+use Rattle.path_requests.specs.PathSteps.{taken}
 use Rattle.node_rules.specs.declared.refusal.Dropped.TheVariants as drops
 use Rattle.node_rules.specs.Frames.{to_all}
 use Rattle.node_rules.specs.declared.refusal.LocalRefusal.{LocalRefusal}
@@ -45,8 +45,8 @@ use Rattle.reach_rules.specs.ReachingNodes.{Beside, Reaching, Commanding, in_rea
 use Rattle.reach_rules.specs.CheckedReplies.{hear_acknowledgement, hear_acknowledgement_in}
 use Rattle.reach_rules.specs.Broadcasts.{with_broadcast_mark, with_broadcast_number, broadcast_fault, hop_less, goes_further, admits_broadcast}
 use Rattle.reach_rules.specs.Broadcasts.{hear_broadcast_in, hear_broadcast, Broadcasting, broadcast_ends, broadcast_from, broadcast}
-use Rattle.reach_rules.specs.PathAsking.{follows_path, hear_path_in, hear_path, next_toward, Asking, ask_ends, asks_by, asks_from, ask_path}
-use Rattle.reach_rules.specs.Receiving.{NeighbourCommand, hear_command_at, hear_command}
+use Rattle.reach_rules.specs.PathRequests.{follows_path, hear_path_in, hear_path, next_toward, Asking, ask_ends, asks_by, asks_from, ask_path}
+use Rattle.reach_rules.specs.FurtherReceptions.{NeighbourCommand, hear_command_at, hear_command}
 use Rattle.reach_rules.specs.Laws.{CommandsRefuseCleanly, CallsRefuseCleanly, CommandsWriteInTurn, CallsWriteInTurn, CommandsSendCommands, CallsSendCommands}
 use Rattle.reach_rules.specs.Laws.{CommandsKeepTheRest, CallsKeepTheRest, AcknowledgementsAreCommands, KeepsTheRest, SendsACommand, AtMostACommand}
 use Rattle.reach_rules.specs.Laws.{MarkedBeforeTheCounter, frames_on}

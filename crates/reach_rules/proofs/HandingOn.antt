@@ -4,8 +4,8 @@ use Rattle.std.specs.Prelude.{if◌then◌else◌}
 use Rattle.std.specs.Option.{option_map_or}
 use Rattle.mesh_header.specs.declared.unit.Unit.{Unit as MeshUnit}
 use Rattle.mesh_header.specs.declared.unit.Unit.TheVariants as units
-use Rattle.mesh_header.specs.Reading.{unit_in}
-use Rattle.loadng_messages.specs.Reading.{message_in}
+use Rattle.mesh_header.specs.Reader.{unit_in}
+use Rattle.loadng_messages.specs.Reader.{message_in}
 use Rattle.node_rules.specs.declared.heard.Path.{Path}
 use Rattle.node_rules.specs.declared.heard.Path.TheVariants as paths
 use Rattle.node_rules.specs.declared.heard.Way.{Way}
@@ -15,8 +15,8 @@ use Rattle.node_rules.specs.declared.refusal.Dropped.TheVariants.{BadUnit, Store
 use Rattle.node_rules.specs.Memory.{StationMemory, address_of}
 use Rattle.node_rules.specs.Plans.{resting}
 use Rattle.node_rules.specs.Drafts.{choose}
-use Rattle.node_rules.specs.Hearing.{Hearing, drop_it, hear_sealed, hear_plain, is_joining, hear_unit_in}
-use Rattle.reach_rules.specs.Receiving.{NeighbourCommand, command_with, command_on}
+use Rattle.node_rules.specs.HearingRules.{Hearing, drop_it, hear_sealed, hear_plain, is_joining, hear_unit_in}
+use Rattle.reach_rules.specs.FurtherReceptions.{NeighbourCommand, command_with, command_on}
 use Rattle.reach_rules.specs.Laws.{OnlyCommandsAreHandedOn}
 use Rattle.node_rules.proofs.OwnAnswers.{Own, ByAnswer, choose_own, refused_own, resting_own, forward_own, gathered_own, message_in_own}
 

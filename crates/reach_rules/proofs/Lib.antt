@@ -1,8 +1,8 @@
 mod AsWithout
 mod HandingOn
 mod Commands
-mod CheckedHearing
+mod CheckedReceptions
 mod Once
-mod Computing
+mod ComputedScripts
 mod ReachScripts
 mod ReachCases

@@ -1,6 +1,6 @@
 -- Single commands and calls of further reach, which are computed.
 use Rattle.std.proofs.Common.{refl}
-use Rattle.reach_rules.proofs.Computing.{computed}
+use Rattle.reach_rules.proofs.ComputedScripts.{computed}
 use Rattle.reach_rules.specs.ReachCases.{StrangeCommandsAreDropped, BroadcastsAreJudgedInOrder, ABroadcastStoresItsMark, OwnBroadcastsAreJudgedInOrder}
 use Rattle.reach_rules.specs.ReachCases.{PathsAreJudgedInOrder, AsksAreJudgedInOrder, DiscoveryIsJudgedInOrder, DiscoveryIsKnownByItsType, OnlyTheUnjoinedScan}
 use Rattle.reach_rules.specs.ReachCases.{AnAcknowledgementTakesACounter, ARelayIsCheckedToo}

@@ -1,6 +1,6 @@
 -- What becomes of acknowledgements, broadcasts, beacons and path requests: the scripts are computed.
 use Rattle.std.proofs.Common.{refl}
-use Rattle.reach_rules.proofs.Computing.{computed}
+use Rattle.reach_rules.proofs.ComputedScripts.{computed}
 use Rattle.reach_rules.specs.ReachScripts.{ALateNeighbourIsListed, ANeighbourInTimeIsBelieved, WithoutChecksAllAreBelieved, BroadcastsGoOnAndEnd}
 use Rattle.reach_rules.specs.ReachScripts.{TheCheapestAgentIsChosen, TheCoordinatorIsAnAgent, APathIsAnswered, ABrokenPathIsNotAnswered}
 

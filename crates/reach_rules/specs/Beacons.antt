@@ -6,12 +6,12 @@ use Rattle.plc_base.specs.declared.address.TheConstants.{PAN}
 use Rattle.plc_base.specs.Fields.{octet}
 use Rattle.pan_discovery.specs.declared.message.Discovery.{Discovery}
 use Rattle.pan_discovery.specs.declared.message.Discovery.TheVariants as frames
-use Rattle.pan_discovery.specs.Reading.{discovery_in}
+use Rattle.pan_discovery.specs.Reader.{discovery_in}
 use Rattle.pan_discovery.specs.Agents.{kth_of}
 use Rattle.pan_discovery.specs.History.{Scanned, begun, taken_after}
 use Rattle.node_rules.specs.declared.refusal.JoinRefusal.{JoinRefusal}
 use Rattle.node_rules.specs.declared.refusal.JoinRefusal.TheVariants as joins
-use Rattle.node_rules.specs.Accepting.{is_own}
+use Rattle.node_rules.specs.Acceptance.{is_own}
 use Rattle.node_rules.specs.Memory.{StationMemory, Memory, Role, Coordinator, Meter, address_of}
 use Rattle.node_rules.specs.Plans.{Plan, within}
 use Rattle.node_rules.specs.Drafts.{Ends, refused, choose}

@@ -3,7 +3,7 @@
 -- draft-clausen-lln-loadng; what is open and listed is said by `neighbour_checks`.
 use Rattle.std.specs.Prelude.{ℕ, Bool, true, false, List, Option, Some, None, Result, is_ok}
 use Rattle.std.specs.Option.{option_and_then}
-use Rattle.mesh_header.specs.Reading.{unit_in}
+use Rattle.mesh_header.specs.Reader.{unit_in}
 use Rattle.loadng_messages.specs.declared.message.Message.{Message}
 use Rattle.loadng_messages.specs.declared.message.Message.TheVariants.{Rreq, Rrep, Rerr}
 use Rattle.neighbour_checks.specs.Acks.{ack_spelling, ack_in}

@@ -21,7 +21,7 @@ use Rattle.node_rules.specs.Frames.{Sent, Sealed, Up, Down}
 use Rattle.node_rules.specs.Memory.{StationMemory, Memory, Role, address_of}
 use Rattle.node_rules.specs.Plans.{Plan, resting}
 use Rattle.node_rules.specs.Drafts.{StationPlace}
-use Rattle.node_rules.specs.Hearing.{hear}
+use Rattle.node_rules.specs.HearingRules.{hear}
 use Rattle.node_rules.specs.Laws.{RefusesCleanly, WritesInTurn}
 use Rattle.node_rules.specs.Meters as meters
 use Rattle.node_rules.specs.Coordinators as coordinator_rules
@@ -33,9 +33,9 @@ use Rattle.reach_rules.specs.declared.refusal.AskRefusal.TheVariants as asks
 use Rattle.reach_rules.specs.ReachingNodes.{Beside, Reaching, ReachHeard, known_answer, drop_it, tick_beside, restarted, nothing_beside}
 use Rattle.reach_rules.specs.CheckedReplies.{message_of, acknowledges, hear_checked, hear_acknowledgement}
 use Rattle.reach_rules.specs.Broadcasts.{broadcast, hear_broadcast_in}
-use Rattle.reach_rules.specs.PathAsking.{ask_path}
+use Rattle.reach_rules.specs.PathRequests.{ask_path}
 use Rattle.reach_rules.specs.Beacons.{hear_discovery}
-use Rattle.reach_rules.specs.Receiving.{NeighbourCommand, command_of, hear_command, hear_reaching, meter_hearing, coordinator_hearing}
+use Rattle.reach_rules.specs.FurtherReceptions.{NeighbourCommand, command_of, hear_command, hear_reaching, meter_hearing, coordinator_hearing}
 
 -- # As without further reach
 

@@ -1,9 +1,9 @@
 pub mod ReachingNodes
 pub mod CheckedReplies
 pub mod Broadcasts
-pub mod PathAsking
+pub mod PathRequests
 pub mod Beacons
-pub mod Receiving
+pub mod FurtherReceptions
 pub mod Laws
 pub mod SmallLines
 pub mod ReachScripts

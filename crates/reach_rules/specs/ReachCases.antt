@@ -33,9 +33,9 @@ use Rattle.reach_rules.specs.declared.refusal.ScanRefusal.TheVariants as scans
 use Rattle.reach_rules.specs.declared.refusal.ChooseRefusal.TheVariants as choices
 use Rattle.reach_rules.specs.ReachingNodes.{Reaching, Commanding, OfCommand, with_log, with_scan}
 use Rattle.reach_rules.specs.Broadcasts.{broadcast}
-use Rattle.reach_rules.specs.PathAsking.{ask_path}
+use Rattle.reach_rules.specs.PathRequests.{ask_path}
 use Rattle.reach_rules.specs.Beacons.{hear_discovery, begin_scan, choose_agent, is_discovery}
-use Rattle.reach_rules.specs.Receiving.{hear_command}
+use Rattle.reach_rules.specs.FurtherReceptions.{hear_command}
 use Rattle.reach_rules.specs.SmallLines.{SmallLine, Doing, Sends, Comes, Passes, Hearing, group_key, identity, unjoined, joined, near_to, on_line, line_of}
 use Rattle.reach_rules.specs.SmallLines.{words_of, flown_in}
 use Rattle.reach_rules.specs.ReachScripts.{waiting, answered, relayed, learned, checked_line}
@@ -234,7 +234,7 @@ OnlyTheUnjoinedScan =
 abbrev pub learned_late : List Doing
 learned_late = Sends 1 2 (0xaa ∷ []) ∷ Comes 1 2 1 ∷ Passes 30 ∷ Comes 2 1 1 ∷ []
 
--- three nodes, with checks on, of which meter 1 has so many counters left
+-- three nodes, with checks on, of which meter 1 has this many counters left
 abbrev pub with_counters_left : ℕ → SmallLine
 with_counters_left left = line_of true (joined 0 ∷ counting (4294967295 - left) (joined 1) ∷ joined 2 ∷ [])
 

@@ -9,7 +9,7 @@ use Rattle.pan_discovery.specs.History.{Scanned, ended}
 use Rattle.node_rules.specs.declared.refusal.Dropped.{Dropped}
 use Rattle.node_rules.specs.declared.refusal.Dropped.TheVariants.{CounterSpent, Store}
 use Rattle.node_rules.specs.Plans.{Plan, resting, within}
-use Rattle.node_rules.specs.Composing.{behind, adding}
+use Rattle.node_rules.specs.ComposedPlans.{behind, adding}
 use Rattle.node_rules.specs.Drafts.{Draft, StationPlace, Ends, refused}
 use Rattle.reach_rules.specs.declared.heard.CommandHeard.{CommandHeard}
 use Rattle.reach_rules.specs.declared.refusal.ReachDropped.{ReachDropped}

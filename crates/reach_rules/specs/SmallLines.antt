@@ -15,17 +15,17 @@ use Rattle.node_rules.specs.declared.heard.Heard.{Heard}
 use Rattle.node_rules.specs.declared.heard.SentHow.{SentHow}
 use Rattle.node_rules.specs.declared.refusal.FrameRefusal.{FrameRefusal}
 use Rattle.node_rules.specs.declared.refusal.SendRefusal.{SendRefusal}
-use Rattle.node_rules.specs.Accepting.{accept}
+use Rattle.node_rules.specs.Acceptance.{accept}
 use Rattle.node_rules.specs.Calls as calls
 use Rattle.node_rules.specs.Ciphers.{network}
 use Rattle.node_rules.specs.Frames.{Sent, SealedUnit, Sealed, Up, Down, Arrived, head_of}
-use Rattle.node_rules.specs.Hearing.{hear}
+use Rattle.node_rules.specs.HearingRules.{hear}
 use Rattle.node_rules.specs.Memory.{StationMemory, Memory, Role, Coordinator, Meter}
 use Rattle.node_rules.specs.MemoryDrafts.{with_station, in_memory}
 use Rattle.node_rules.specs.Meters as meters
 use Rattle.node_rules.specs.NodeSteps.{of_station}
 use Rattle.node_rules.specs.Plans.{Plan}
-use Rattle.node_rules.specs.StoreReading.{remembering, blank_station}
+use Rattle.node_rules.specs.RestartStates.{remembering, blank_station}
 use Rattle.reach_rules.specs.declared.heard.DiscoveryHeard.{DiscoveryHeard}
 use Rattle.reach_rules.specs.declared.refusal.ReachDropped.{ReachDropped}
 use Rattle.reach_rules.specs.declared.refusal.BroadcastRefusal.{BroadcastRefusal}
@@ -35,10 +35,10 @@ use Rattle.reach_rules.specs.declared.refusal.ScanRefusal.{ScanRefusal}
 use Rattle.reach_rules.specs.declared.refusal.ChooseRefusal.{ChooseRefusal}
 use Rattle.reach_rules.specs.ReachingNodes.{Reaching, ReachHeard, nothing_beside, with_memory, with_scan, tick_beside}
 use Rattle.reach_rules.specs.Broadcasts.{broadcast}
-use Rattle.reach_rules.specs.PathAsking.{ask_path}
+use Rattle.reach_rules.specs.PathRequests.{ask_path}
 use Rattle.reach_rules.specs.Beacons.{ChosenAgent, hear_discovery, begin_scan, choose_agent}
 use Rattle.reach_rules.specs.Beacons as beacons
-use Rattle.reach_rules.specs.Receiving.{hear_reaching}
+use Rattle.reach_rules.specs.FurtherReceptions.{hear_reaching}
 
 -- # Nodes and flights
 

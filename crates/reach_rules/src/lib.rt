@@ -1,8 +1,8 @@
 //! What nodes do for further reach: acknowledged route replies, broadcasts, beacons and path requests. They are definitions, in
 //! `specs/`, over those of `node_rules` and of the four crates of these subjects, and the step of a line is made of them (`line_rules`).
 //!
-//! - `ReachingNodes.antt` is a node with what it holds beside its memory: checks, a scan, a log of broadcasts. `Receiving.antt` is what it does with a
-//!   frame (`hear_reaching`), `CheckedReplies.antt`, `Broadcasts.antt`, `Beacons.antt` and `PathAsking.antt` the rule of each subject.
+//! - `ReachingNodes.antt` is a node with what it holds beside its memory: checks, a scan, a log of broadcasts. `FurtherReceptions.antt` is what it does with a
+//!   frame (`hear_reaching`), `CheckedReplies.antt`, `Broadcasts.antt`, `Beacons.antt` and `PathRequests.antt` the rule of each subject.
 //! - `ReachScripts.antt` and `ReachCases.antt` are small runs and cases that the checker computes.
 //!
 //! The code here is the words of the answers ([`CommandHeard`], [`DiscoveryHeard`], [`ReachDropped`] ..) and the laws, each an empty function

@@ -1,7 +1,7 @@
 -- What is kept has no gap.
 use Rattle.plc_base.specs.Keeper.{Records}
 use Rattle.store_tables.specs.SlotTables.{IsGapless}
-use Rattle.store_tables.proofs.Opening.{stored_gapless}
+use Rattle.store_tables.proofs.OpenedTables.{stored_gapless}
 use Rattle.routing_set.specs.RoutingSet.{Routing, ranks, AgreesWith}
 
 pub kept_gapless : (routing : Routing) (records : Records) → AgreesWith routing records → IsGapless ranks records

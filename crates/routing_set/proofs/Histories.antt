@@ -5,7 +5,7 @@ use Rattle.std.specs.Option.{option_map}
 use Rattle.std.proofs.lemmas.List.{length-map, get_or-map}
 use Rattle.plc_base.specs.Keeper.{Records}
 use Rattle.store_tables.specs.SlotTables as slots
-use Rattle.store_tables.proofs.Opening.{reopened}
+use Rattle.store_tables.proofs.OpenedTables.{reopened}
 use Rattle.routing_set.specs.declared.rank.Rank.{Rank}
 use Rattle.routing_set.specs.declared.entry.RoutingEntry.{RoutingEntry}
 use Rattle.routing_set.specs.Ranks.{IsAtLeast}
@@ -13,8 +13,8 @@ use Rattle.routing_set.specs.RoutingSet.{Routing, ranks, AgreesWith, floors_in, 
 use Rattle.routing_set.specs.RoutingSet.{offered_entry, ended, without_route}
 use Rattle.routing_set.specs.Histories.{IsRouting, Leads, begins, offers, fails, ends, restarts, elsewhere}
 use Rattle.routing_set.proofs.RankOrder.{at_least_trans}
-use Rattle.routing_set.proofs.Endings.{kept_ended}
-use Rattle.routing_set.proofs.Rising.{entered_sound, half_sound, entered_rises, half_rises, ended_held}
+use Rattle.routing_set.proofs.RouteEnds.{kept_ended}
+use Rattle.routing_set.proofs.RisingRanks.{entered_sound, half_sound, entered_rises, half_rises, ended_held}
 
 -- where routes end, the addresses stay apart
 pub ended_sound : (test : RoutingEntry → Bool) (r : Routing) → IsRouting r → IsRouting (ended test r)

@@ -1,7 +1,7 @@
 pub mod Ranks
 pub mod OwnNumber
 pub mod RoutingSet
-pub mod Endings
+pub mod RouteEnds
 pub mod FirstEnd
 pub mod Histories
 pub mod Laws

@@ -1,7 +1,7 @@
 //! Which routes end.
 ghost use Rattle.std.specs.Prelude.{◌≡◌};
 ghost use Rattle.routing_set.specs.RoutingSet.{without_route};
-ghost use Rattle.routing_set.specs.Endings.{takes, after_ending};
+ghost use Rattle.routing_set.specs.RouteEnds.{takes, after_ending};
 
 use crate::RoutingEntry;
 use plc_base::Short;

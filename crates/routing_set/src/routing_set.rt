@@ -8,7 +8,7 @@ ghost use Rattle.store_tables.specs.Writes.{Wrote};
 ghost use Rattle.store_tables.specs.SlotTables.{IsTable, IsGapless, IsReading, read_into};
 ghost use Rattle.store_tables.specs.OpenFaults.{IsOpened, IsFault};
 ghost use Rattle.routing_set.specs.Ranks.{rank_by};
-ghost use Rattle.routing_set.specs.Endings.{takes};
+ghost use Rattle.routing_set.specs.RouteEnds.{takes};
 ghost use Rattle.routing_set.specs.FirstEnd.{first_end, IsStill};
 ghost use Rattle.routing_set.specs.RoutingSet.{Routing, ranks, AgreesWith, IsSomeOffered, IsBad, SameElsewhere, opened, at_rest, place_of, rank_of, route_of};
 ghost use Rattle.routing_set.specs.RoutingSet.{next_of, held, floor_of, is_better, is_full, is_fresh, first_to_go, offered, offer_writes};

@@ -5,12 +5,12 @@ use Rattle.markup.specs.declared.names.Attribute.TheVariants as A
 use Rattle.markup_parts.specs.Markups.{Markup, Nothing, Words, Inside, Both, with_text, with_number}
 use Rattle.frame_words.specs.Kinds.{kind_word}
 use Rattle.sentence_parts.specs.Parts.{node_text}
-use Rattle.line_tale.specs.declared.act.Act.{Act}
-use Rattle.line_tale.specs.declared.act.Act.TheVariants as acts
-use Rattle.line_tale.specs.declared.told.TaleEvent.{TaleEvent}
-use Rattle.line_tale.specs.declared.told.TaleFlight.{TaleFlight}
-use Rattle.line_tale.specs.Kinds.{actor_of}
-use Rattle.line_tale.specs.Tales.{numbered}
+use Rattle.line_record.specs.declared.act.Act.{Act}
+use Rattle.line_record.specs.declared.act.Act.TheVariants as acts
+use Rattle.line_record.specs.declared.recorded.RecordedEvent.{RecordedEvent}
+use Rattle.line_record.specs.declared.recorded.RecordedFlight.{RecordedFlight}
+use Rattle.line_record.specs.Kinds.{actor_of}
+use Rattle.line_record.specs.RunRecords.{numbered}
 use Rattle.run_charts.specs.declared.row.Row.{Row}
 use Rattle.run_charts.specs.declared.outcome.Outcome.{Outcome}
 use Rattle.run_charts.specs.declared.outcome.Outcome.TheVariants as outcomes
@@ -18,7 +18,7 @@ use Rattle.run_charts.specs.Outcomes.{has_cross, outcome_of}
 use Rattle.run_charts.specs.Runs.{Run, is_hushed, missed_at}
 use Rattle.run_charts.specs.Rows.{flight_heard, last_row, line_after, members, number_at, rows_of}
 use Rattle.run_charts.specs.Columns.{columns_of, doer_of}
-use Rattle.run_charts.specs.Sayings.{sayings}
+use Rattle.run_charts.specs.RowSentences.{sayings}
 use Rattle.run_charts.specs.Lives.{life}
 use Rattle.run_charts.specs.Drawings.{arrow, column_x, cross, dot, half, label, line_y, numbers, passing, square}
 
@@ -70,12 +70,12 @@ abbrev pub dot_at : Option ℕ → ℕ → Markup
 dot_at None y = Nothing
 dot_at (Some x) y = dot outcomes.Overheard x y
 
-abbrev pub other_told : Option TaleEvent → List ℕ → ℕ → Markup
-other_told None columns y = Nothing
-other_told (Some e) columns y = dot_at (x_of columns (actor_of e.act)) y
+abbrev pub other_dot : Option RecordedEvent → List ℕ → ℕ → Markup
+other_dot None columns y = Nothing
+other_dot (Some e) columns y = dot_at (x_of columns (actor_of e.act)) y
 
 abbrev pub other_if : Bool → Run → List ℕ → ℕ → ℕ → Markup
-other_if true r columns event y = other_told (numbered r.events event) columns y
+other_if true r columns event y = other_dot (numbered r.events event) columns y
 other_if false r columns event y = Nothing
 
 -- a node that it is not for hears it
@@ -103,7 +103,7 @@ half_at None from y = Nothing
 half_at (Some to) from y = half from to y
 
 -- where it goes: to the node that hears it, or half way to the one that it is for and never came to
-unfoldable pub goal_at : Run → List ℕ → ℕ → TaleEvent → Option ℕ
+unfoldable pub goal_at : Run → List ℕ → ℕ → RecordedEvent → Option ℕ
 goal_at r columns event e =
     if is_hushed r event then x_of_node columns (missed_at r (flight_heard e.act)) else x_of columns (actor_of e.act)
 
@@ -111,30 +111,30 @@ abbrev pub course_by : Bool → Option ℕ → Outcome → ℕ → ℕ → Marku
 course_by true to outcome from y = half_at to from y
 course_by false to outcome from y = coming_at to outcome from y
 
-unfoldable pub course : Run → List ℕ → ℕ → TaleEvent → ℕ → ℕ → Markup
+unfoldable pub course : Run → List ℕ → ℕ → RecordedEvent → ℕ → ℕ → Markup
 course r columns event e from y = course_by (is_hushed r event) (goal_at r columns event e) (outcome_of e) from y
 
 abbrev pub or_beside : Option ℕ → ℕ → ℕ
 or_beside None from = from + 1
 or_beside (Some to) from = to
 
-unfoldable pub aim : Run → List ℕ → ℕ → TaleEvent → ℕ → ℕ
+unfoldable pub aim : Run → List ℕ → ℕ → RecordedEvent → ℕ → ℕ
 aim r columns event e from = or_beside (goal_at r columns event e) from
 
-unfoldable pub delivery_at : ℕ → TaleFlight → Run → List ℕ → ℕ → TaleEvent → ℕ → ℕ → Markup
+unfoldable pub delivery_at : ℕ → RecordedFlight → Run → List ℕ → ℕ → RecordedEvent → ℕ → ℕ → Markup
 delivery_at from frame r columns event e flight y =
     Both (dot (outcome_of e) from y)
     (Both (course r columns event e from y) (label (label_x from (aim r columns event e from)) y flight (kind_word frame.kind)))
 
-abbrev pub delivery_from : Option ℕ → TaleFlight → Run → List ℕ → ℕ → TaleEvent → ℕ → ℕ → Markup
+abbrev pub delivery_from : Option ℕ → RecordedFlight → Run → List ℕ → ℕ → RecordedEvent → ℕ → ℕ → Markup
 delivery_from None frame r columns event e flight y = Nothing
 delivery_from (Some from) frame r columns event e flight y = delivery_at from frame r columns event e flight y
 
-abbrev pub delivery_of : Option TaleFlight → Run → List ℕ → ℕ → TaleEvent → ℕ → ℕ → Markup
+abbrev pub delivery_of : Option RecordedFlight → Run → List ℕ → ℕ → RecordedEvent → ℕ → ℕ → Markup
 delivery_of None r columns event e flight y = Nothing
 delivery_of (Some frame) r columns event e flight y = delivery_from (x_of columns frame.from) frame r columns event e flight y
 
-unfoldable pub delivery : Run → List ℕ → ℕ → TaleEvent → ℕ → ℕ → Markup
+unfoldable pub delivery : Run → List ℕ → ℕ → RecordedEvent → ℕ → ℕ → Markup
 delivery r columns event e flight y = delivery_of (numbered r.flights flight) r columns event e flight y
 
 -- # Other events
@@ -151,46 +151,46 @@ square_at (Some x) outcome y = square outcome x y
 unfoldable pub width : List ℕ → ℕ
 width columns = column_x (length columns) - 46
 
-abbrev pub doing_by : Bool → List ℕ → TaleEvent → ℕ → Markup
+abbrev pub doing_by : Bool → List ℕ → RecordedEvent → ℕ → Markup
 doing_by true columns e y = passing (width columns) y
 doing_by false columns e y = square_at (x_of_node columns (doer_of e.act)) (outcome_of e) y
 
-unfoldable pub doing : List ℕ → TaleEvent → ℕ → Markup
+unfoldable pub doing : List ℕ → RecordedEvent → ℕ → Markup
 doing columns e y = doing_by (is_tick e.act) columns e y
 
 -- # Rows
 
 -- the first flight that an event made
-unfoldable pub first_made : TaleEvent → ℕ
+unfoldable pub first_made : RecordedEvent → ℕ
 first_made e = if e.flights == 0 then 0 else e.first_flight
 
 -- the flight that an event is about: the one that came, or the first one that it made
-unfoldable pub flight_about : TaleEvent → ℕ
+unfoldable pub flight_about : RecordedEvent → ℕ
 flight_about e = if flight_heard e.act == 0 then first_made e else flight_heard e.act
 
-abbrev pub told_by : Bool → Run → List ℕ → ℕ → TaleEvent → ℕ → Markup
-told_by true r columns event e y = doing columns e y
-told_by false r columns event e y = delivery r columns event e (flight_heard e.act) y
+abbrev pub drawing_by : Bool → Run → List ℕ → ℕ → RecordedEvent → ℕ → Markup
+drawing_by true r columns event e y = doing columns e y
+drawing_by false r columns event e y = delivery r columns event e (flight_heard e.act) y
 
-unfoldable pub told_drawing : Run → List ℕ → ℕ → TaleEvent → ℕ → Markup
-told_drawing r columns event e y = told_by (flight_heard e.act == 0) r columns event e y
+unfoldable pub event_drawing : Run → List ℕ → ℕ → RecordedEvent → ℕ → Markup
+event_drawing r columns event e y = drawing_by (flight_heard e.act == 0) r columns event e y
 
 -- the first and the last event of a row; of a flight that came, the event that the row tells of
-unfoldable pub first_told : List ℕ → Row → ℕ → TaleEvent → ℕ
-first_told events row event e = if flight_heard e.act == 0 then number_at events row.start else event
+unfoldable pub first_shown : List ℕ → Row → ℕ → RecordedEvent → ℕ
+first_shown events row event e = if flight_heard e.act == 0 then number_at events row.start else event
 
-unfoldable pub last_told : List ℕ → Row → ℕ → TaleEvent → ℕ
-last_told events row event e = if flight_heard e.act == 0 then number_at events (row.end - 1) else event
+unfoldable pub last_shown : List ℕ → Row → ℕ → RecordedEvent → ℕ
+last_shown events row event e = if flight_heard e.act == 0 then number_at events (row.end - 1) else event
 
-unfoldable pub row_content : Run → List ℕ → List ℕ → Row → ℕ → TaleEvent → ℕ → Markup
+unfoldable pub row_content : Run → List ℕ → List ℕ → Row → ℕ → RecordedEvent → ℕ → Markup
 row_content r columns events row event e y =
-    Both (numbers (first_told events row event e) (last_told events row event e) y)
-    (Both (others r columns (members events row) y) (told_drawing r columns event e y))
+    Both (numbers (first_shown events row event e) (last_shown events row event e) y)
+    (Both (others r columns (members events row) y) (event_drawing r columns event e y))
 
-unfoldable pub row_group : Run → List ℕ → List ℕ → Row → ℕ → TaleEvent → ℕ → Markup
+unfoldable pub row_group : Run → List ℕ → List ℕ → Row → ℕ → RecordedEvent → ℕ → Markup
 row_group r columns events row event e y = Inside E.Group (with_number A.Flight (flight_about e) ∷ []) (row_content r columns events row event e y)
 
-abbrev pub row_by : Option TaleEvent → Run → List ℕ → List ℕ → Row → ℕ → Markup
+abbrev pub row_by : Option RecordedEvent → Run → List ℕ → List ℕ → Row → ℕ → Markup
 row_by None r columns events row event = Nothing
 row_by (Some e) r columns events row event = row_group r columns events row event e (line_y row.line)
 

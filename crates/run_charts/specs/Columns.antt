@@ -1,12 +1,12 @@
 -- Which nodes have a column in a chart: those that take part in its events.
 use Rattle.std.specs.Prelude.{ℕ, ◌==◌, Bool, true, false, nat_le, List, [], ◌∷◌, ◌++◌, take, drop, position, slice_get}
 use Rattle.std.specs.Prelude.{Option, None, Some, if◌then◌else◌}
-use Rattle.line_tale.specs.declared.act.Act.{Act}
-use Rattle.line_tale.specs.declared.act.Act.TheVariants as acts
-use Rattle.line_tale.specs.declared.told.TaleEvent.{TaleEvent}
-use Rattle.line_tale.specs.declared.told.TaleFlight.{TaleFlight}
-use Rattle.line_tale.specs.Kinds.{actor_of, is_setup}
-use Rattle.line_tale.specs.Tales.{made_by, numbered}
+use Rattle.line_record.specs.declared.act.Act.{Act}
+use Rattle.line_record.specs.declared.act.Act.TheVariants as acts
+use Rattle.line_record.specs.declared.recorded.RecordedEvent.{RecordedEvent}
+use Rattle.line_record.specs.declared.recorded.RecordedFlight.{RecordedFlight}
+use Rattle.line_record.specs.Kinds.{actor_of, is_setup}
+use Rattle.line_record.specs.RunRecords.{made_by, numbered}
 use Rattle.run_charts.specs.Runs.{Run, is_hushed, missed_at}
 use Rattle.run_charts.specs.Rows.{flight_heard}
 
@@ -45,7 +45,7 @@ is_own _ = true
 unfoldable pub doer_of : Act → Option ℕ
 doer_of act = if is_setup act then None else (if is_own act then Some (actor_of act) else None)
 
-abbrev pub sender_by : Option TaleFlight → Option ℕ
+abbrev pub sender_by : Option RecordedFlight → Option ℕ
 sender_by None = None
 sender_by (Some flight) = Some flight.from
 
@@ -53,16 +53,16 @@ unfoldable pub sender_of : Run → ℕ → Option ℕ
 sender_of r flight = sender_by (numbered r.flights flight)
 
 -- the node that hears a flight at an event, if it is for it; else the node that it is for and never came to
-unfoldable pub hearer_of : Run → ℕ → TaleEvent → Option ℕ
+unfoldable pub hearer_of : Run → ℕ → RecordedEvent → Option ℕ
 hearer_of r event e =
     if flight_heard e.act == 0 then None
     else (if is_hushed r event then missed_at r (flight_heard e.act) else Some (actor_of e.act))
 
-abbrev pub with_senders : List TaleFlight → List ℕ → List ℕ
+abbrev pub with_senders : List RecordedFlight → List ℕ → List ℕ
 with_senders [] columns = columns
 with_senders (flight ∷ flights) columns = with_senders flights (with_column flight.from columns)
 
-abbrev pub with_told : Option TaleEvent → Run → ℕ → List ℕ → List ℕ
+abbrev pub with_told : Option RecordedEvent → Run → ℕ → List ℕ → List ℕ
 with_told None r event columns = columns
 with_told (Some e) r event columns =
     with_senders (made_by e r.flights)

@@ -11,7 +11,7 @@ use Rattle.node_pasts.specs.declared.past.Change.{Change}
 use Rattle.node_pasts.specs.Pasts.{changes_at}
 use Rattle.sentence_parts.specs.declared.part.Part.TheVariants as part
 use Rattle.sentence_parts.specs.Parts.{parts_text}
-use Rattle.line_tale.specs.declared.told.TaleEvent.{TaleEvent}
+use Rattle.line_record.specs.declared.recorded.RecordedEvent.{RecordedEvent}
 use Rattle.run_charts.specs.declared.lanes.LaneSize.{LaneSize}
 use Rattle.run_charts.specs.declared.lanes.LaneSize.TheVariants as sizes
 use Rattle.run_charts.specs.declared.outcome.Outcome.{Outcome}
@@ -24,7 +24,7 @@ use Rattle.run_charts.specs.Runs.{Run, is_silent}
 
 -- # Places
 
--- how high the lanes of so many nodes are
+-- how high the lanes of this many nodes are
 unfoldable pub size_of : ℕ → LaneSize
 size_of nodes = if nat_le nodes 24 then sizes.High else (if nat_le nodes 120 then sizes.Middle else sizes.Low)
 
@@ -45,7 +45,7 @@ name_drop sizes.High = 13
 name_drop sizes.Middle = 6
 name_drop sizes.Low = 6
 
--- where the event at a place is, from 0 among so many
+-- where the event at a place is, from 0 among this many
 unfoldable pub x_of : ℕ → ℕ → ℕ
 x_of place events = 92 + 2 * cell_of place events
 
@@ -67,7 +67,7 @@ abbrev pub next_by : Option Change → ℕ → ℕ
 next_by None events = events
 next_by (Some change) events = change.event - 1
 
--- where the change of a number is among so many events; their end, where there is none
+-- where the change of a number is among this many events; their end, where there is none
 abbrev pub next_at : List Change → ℕ → ℕ → ℕ
 next_at list number events = next_by (slice_get list number) events
 
@@ -100,7 +100,7 @@ changes events size node list = changes_from events size node list 0 list
 unfoldable pub lane : Run → LaneSize → ℕ → Markup
 lane r size node = Both (name_if (has_name node size) node size) (changes (length r.events) size node (changes_at r.pasts node))
 
--- the lanes of so many nodes
+-- the lanes of this many nodes
 abbrev pub lanes_of : Run → LaneSize → ℕ → Markup
 lanes_of r size zero = Nothing
 lanes_of r size (suc node) = Both (lanes_of r size node) (lane r size node)
@@ -122,7 +122,7 @@ abbrev pub tick : ℕ → ℕ → ℕ → Markup
 tick x bottom clock = Both (tick_line x bottom) (tick_words x clock)
 
 -- whether an event is a tick that is far enough from the one before it: it is from this place on
-unfoldable pub is_shown : TaleEvent → ℕ → ℕ → Bool
+unfoldable pub is_shown : RecordedEvent → ℕ → ℕ → Bool
 is_shown e x free = is_tick e.act && nat_le free x
 
 abbrev pub tick_if : Bool → ℕ → ℕ → ℕ → Markup
@@ -134,7 +134,7 @@ free_after true x free = x + 84
 free_after false x free = free
 
 -- the ticks of these events, the first of them at this place among all
-abbrev pub ticks_from : ℕ → List TaleEvent → ℕ → ℕ → List TaleEvent → Markup
+abbrev pub ticks_from : ℕ → List RecordedEvent → ℕ → ℕ → List RecordedEvent → Markup
 ticks_from place all free bottom [] = Nothing
 ticks_from place all free bottom (e ∷ events) =
     Both (tick_if (is_shown e (x_of place (length all)) free) (x_of place (length all)) bottom e.clock)
@@ -155,7 +155,7 @@ abbrev pub mark_size : Outcome → LaneSize → ℕ
 mark_size outcomes.Overheard size = 2
 mark_size outcome size = height_of size - 2
 
--- from a place down so many pixels
+-- from a place down this many pixels
 unfoldable pub downwards : ℕ → ℕ → ℕ → List ℕ
 downwards x y pixels =
     parts_text
@@ -195,7 +195,7 @@ all_marks size ranks = Both (marks size ranks outcomes.Overheard) (Both (marks s
 
 -- # The whole
 
-unfoldable pub ticks : List TaleEvent → ℕ → Markup
+unfoldable pub ticks : List RecordedEvent → ℕ → Markup
 ticks events bottom = ticks_from 0 events 0 bottom events
 
 unfoldable pub drawing_content : Run → LaneSize → List ℕ → Markup

@@ -3,8 +3,8 @@ pub mod Runs
 pub mod Rows
 pub mod Columns
 pub mod Drawings
-pub mod Doings
-pub mod Sayings
+pub mod EventDeeds
+pub mod RowSentences
 pub mod Lives
 pub mod Charts
 pub mod Cells

@@ -3,7 +3,7 @@ use Rattle.std.specs.Prelude.{ℕ, Bool, true, false, List, codes, if◌then◌e
 use Rattle.line_events.specs.declared.event.Answer.{Answer}
 use Rattle.line_events.specs.declared.event.Answer.TheVariants as answers
 use Rattle.line_events.specs.Answers.{is_ok}
-use Rattle.line_tale.specs.declared.told.TaleEvent.{TaleEvent}
+use Rattle.line_record.specs.declared.recorded.RecordedEvent.{RecordedEvent}
 use Rattle.run_charts.specs.declared.outcome.Outcome.{Outcome}
 use Rattle.run_charts.specs.declared.outcome.Outcome.TheVariants as outcomes
 
@@ -19,7 +19,7 @@ fine_or_good answers.Done = outcomes.Good
 fine_or_good answers.Path = outcomes.Good
 fine_or_good _ = outcomes.Fine
 
-unfoldable pub outcome_of : TaleEvent → Outcome
+unfoldable pub outcome_of : RecordedEvent → Outcome
 outcome_of e = if e.forged then outcomes.Forged else (if is_ok e.answer then fine_or_good e.answer else refused_or_overheard e.answer)
 
 -- whether an arrow ends in a cross

@@ -2,11 +2,11 @@
 use Rattle.std.specs.Prelude.{ℕ, ◌+◌, ◌-◌, ◌==◌, ◌&&◌, ◌||◌, zero, suc, min, Bool, true, false}
 use Rattle.std.specs.Prelude.{not, List, [], ◌∷◌, ◌++◌, length, take, drop, slice_get, slice_set}
 use Rattle.std.specs.Prelude.{Option, None, Some, if◌then◌else◌}
-use Rattle.line_tale.specs.declared.act.Act.{Act}
-use Rattle.line_tale.specs.declared.act.Act.TheVariants as acts
-use Rattle.line_tale.specs.declared.told.TaleEvent.{TaleEvent}
-use Rattle.line_tale.specs.Kinds.{is_setup, readies}
-use Rattle.line_tale.specs.Tales.{numbered}
+use Rattle.line_record.specs.declared.act.Act.{Act}
+use Rattle.line_record.specs.declared.act.Act.TheVariants as acts
+use Rattle.line_record.specs.declared.recorded.RecordedEvent.{RecordedEvent}
+use Rattle.line_record.specs.Kinds.{is_setup, prepares}
+use Rattle.line_record.specs.RunRecords.{numbered}
 use Rattle.run_charts.specs.declared.row.Row.{Row}
 use Rattle.run_charts.specs.declared.row.Joint.{Joint}
 use Rattle.run_charts.specs.declared.row.Joint.TheVariants as joints
@@ -23,27 +23,27 @@ abbrev pub is_one : Option ℕ → Bool
 is_one None = false
 is_one (Some node) = true
 
-abbrev pub readies_one : Act → Bool
-readies_one act = is_one (readies act)
+abbrev pub prepares_one : Act → Bool
+prepares_one act = is_one (prepares act)
 
 -- whether both are lines of the setup, or both ready nodes for a joining
 unfoldable pub is_alike : Act → Act → Bool
-is_alike act other = (is_setup act && is_setup other) || (readies_one act && readies_one other)
+is_alike act other = (is_setup act && is_setup other) || (prepares_one act && prepares_one other)
 
 unfoldable pub is_same_flight : Act → Act → Bool
 is_same_flight act other = flight_heard act == flight_heard other && not (flight_heard act == 0)
 
 -- how an event stands to the one that the row before it tells of
-unfoldable pub joint_between : TaleEvent → Bool → TaleEvent → Bool → Joint
-joint_between told hushed main main_hushed =
-    if is_alike told.act main.act then joints.Along
-    else (if not (is_same_flight told.act main.act) then joints.Apart
+unfoldable pub joint_between : RecordedEvent → Bool → RecordedEvent → Bool → Joint
+joint_between recorded hushed main main_hushed =
+    if is_alike recorded.act main.act then joints.Along
+    else (if not (is_same_flight recorded.act main.act) then joints.Apart
     else (if hushed then joints.Along
     else (if main_hushed then joints.Over else joints.Apart)))
 
-abbrev pub joint_by : Option TaleEvent → Option TaleEvent → Bool → Bool → Joint
-joint_by (Some told) (Some main) hushed main_hushed = joint_between told hushed main main_hushed
-joint_by (Some told) None hushed main_hushed = joints.Apart
+abbrev pub joint_by : Option RecordedEvent → Option RecordedEvent → Bool → Bool → Joint
+joint_by (Some recorded) (Some main) hushed main_hushed = joint_between recorded hushed main main_hushed
+joint_by (Some recorded) None hushed main_hushed = joints.Apart
 joint_by None main hushed main_hushed = joints.Apart
 
 -- that of the events of two numbers; what the script says something before begins a row
@@ -100,7 +100,7 @@ with_event_by (Some last) r events place rows =
 unfoldable pub with_event : Run → List ℕ → ℕ → List Row → List Row
 with_event r events place rows = with_event_by (last_row rows) r events place rows
 
--- with so many events of the list
+-- with this many events of the list
 abbrev pub with_events : Run → List ℕ → ℕ → List Row
 with_events r events zero = []
 with_events r events (suc place) = with_event r events place (with_events r events place)

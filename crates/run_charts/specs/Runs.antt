@@ -1,18 +1,18 @@
 -- The run that charts are drawn of. Events and flights stand by their numbers from 1, nodes from 0.
 use Rattle.std.specs.Prelude.{ℕ, Bool, true, false, List, [], Option, None, Some, if◌then◌else◌, length, nat_eq}
-use Rattle.line_tale.specs.declared.told.TaleEvent.{TaleEvent}
-use Rattle.line_tale.specs.declared.told.TaleFlight.{TaleFlight}
-use Rattle.line_tale.specs.declared.lot.Lot.{Lot}
-use Rattle.line_tale.specs.declared.lot.Fate.{Fate}
-use Rattle.line_tale.specs.declared.lot.Fate.TheVariants as fates
-use Rattle.line_tale.specs.Tales.{numbered}
+use Rattle.line_record.specs.declared.recorded.RecordedEvent.{RecordedEvent}
+use Rattle.line_record.specs.declared.recorded.RecordedFlight.{RecordedFlight}
+use Rattle.line_record.specs.declared.course.Course.{Course}
+use Rattle.line_record.specs.declared.course.Fate.{Fate}
+use Rattle.line_record.specs.declared.course.Fate.TheVariants as fates
+use Rattle.line_record.specs.RunRecords.{numbered}
 use Rattle.node_pasts.specs.Pasts.{NodePast}
 
 pub record Run : Type 0 where
-  pub events : List TaleEvent
-  pub flights : List TaleFlight
+  pub events : List RecordedEvent
+  pub flights : List RecordedFlight
   -- what became of each flight
-  pub lots : List Lot
+  pub courses : List Course
   -- the sentence of each event; what came to a node that it is not for has no words
   pub sentences : List (List ℕ)
   -- what the script says before each event
@@ -51,10 +51,10 @@ is_missed fates.Missed = true
 is_missed (fates.Lost event) = true
 is_missed _ = false
 
-abbrev pub missed_by : Option Lot → Option ℕ
+abbrev pub missed_by : Option Course → Option ℕ
 missed_by None = None
-missed_by (Some lot) = if is_missed lot.fate then lot.to else None
+missed_by (Some course) = if is_missed course.fate then course.to else None
 
 -- the node that a flight is for, if it never came there
 unfoldable pub missed_at : Run → ℕ → Option ℕ
-missed_at r flight = missed_by (numbered r.lots flight)
+missed_at r flight = missed_by (numbered r.courses flight)

@@ -3,13 +3,13 @@ ghost use Rattle.std.specs.Prelude.{◌≡◌, ◌≤◌, IfOk};
 ghost use Rattle.run_charts.specs.Cells as spec_cells;
 
 use crate::outcome::{Outcome, outcome_of};
-use line_tale::{Act, TaleEvent, actor_of};
+use line_record::{Act, RecordedEvent, actor_of};
 use std::alloc::{AllocError, Global};
 
-/// A lane has so many cells.
+/// A lane has this many cells.
 pub const CELLS: usize = 590;
 
-/// So many nodes have a lane.
+/// This many nodes have a lane.
 pub const LANES: usize = 1000;
 
 /// How much an outcome matters, from 1; 0 is nothing.
@@ -31,14 +31,14 @@ fn is_marked(act: &Act) -> bool
 {
     match act {
         Act::Show { .. } => false,
-        Act::Rand { .. } => false,
+        Act::RandomOctets { .. } => false,
         Act::Tick { .. } => false,
         Act::Lose { .. } => false,
         _ => true,
     }
 }
 
-/// The cell of an event, by its place from 0 among so many. A run has at most 50,000.
+/// The cell of an event, by its place from 0 among this many. A run has at most 50,000.
 #[tactic(auto, unfolding(crate::specs::Cells::cell_of))]
 pub fn cell_of(place: usize, events: usize) -> usize
     ensures value { result ≡ spec_cells.cell_of place events }
@@ -64,34 +64,38 @@ fn raise(ranks: &mut Vec<u8>, at: usize, rank: u8)
     ranks[at] = rank;
 }
 
-// With the event at a place from 0 among so many.
+// With the event at a place from 0 among this many.
 #[tactic(auto, unfolding(crate::specs::Cells::marked))]
-fn mark(ranks: &mut Vec<u8>, place: usize, events: usize, told: &TaleEvent)
-    ensures { ranks.new.items ≡ spec_cells.marked place events told.now ranks.old.items }
+fn mark(ranks: &mut Vec<u8>, place: usize, events: usize, recorded: &RecordedEvent)
+    ensures { ranks.new.items ≡ spec_cells.marked place events recorded.now ranks.old.items }
 {
-    if !is_marked(&told.act) {
+    if !is_marked(&recorded.act) {
         return;
     }
-    let lane = actor_of(&told.act) as usize * CELLS;
+    let lane = actor_of(&recorded.act) as usize * CELLS;
     raise(
         ranks,
         lane + cell_of(place, events),
-        rank_of(outcome_of(told)),
+        rank_of(outcome_of(recorded)),
     );
 }
 
-// With so many events, by their places.
-fn mark_all(ranks: &mut Vec<u8>, events: &[TaleEvent])
+// With this many events, by their places.
+fn mark_all(ranks: &mut Vec<u8>, events: &[RecordedEvent])
     ensures { ranks.new.items ≡ spec_cells.marked_from 0 events.now events.now ranks.old.items }
 {
-    for (place, told) in events.iter().enumerate() {
-        mark(ranks, place, events.len(), told);
+    for (place, recorded) in events.iter().enumerate() {
+        mark(ranks, place, events.len(), recorded);
     }
 }
 
-/// The ranks of the cells of so many nodes, node by node.
+/// The ranks of the cells of this many nodes, node by node.
 #[tactic(auto, unfolding(crate::specs::Cells::ranks_of))]
-pub fn ranks_of(alloc: Global, nodes: usize, events: &[TaleEvent]) -> Result<Vec<u8>, AllocError>
+pub fn ranks_of(
+    alloc: Global,
+    nodes: usize,
+    events: &[RecordedEvent],
+) -> Result<Vec<u8>, AllocError>
     ensures { IfOk result (λ ranks. ranks.items ≡ spec_cells.ranks_of nodes events.now) }
 {
     let mut ranks = Vec::new(alloc);

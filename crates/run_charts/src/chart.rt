@@ -12,7 +12,7 @@ use crate::outcome::{Outcome, has_cross, outcome_of};
 use crate::row::{Row, flight_heard, line_after, members, number_at};
 use crate::run::ChartRun;
 use frame_words::kind_word;
-use line_tale::{Act, TaleEvent, TaleFlight, actor_of};
+use line_record::{Act, RecordedEvent, RecordedFlight, actor_of};
 use markup::{Attribute, Element};
 use markup_parts::{end, given, given_number, open, push_pieces, start, text};
 use sentence_parts::{node, sentence};
@@ -61,24 +61,24 @@ fn label_x(from: usize, to: usize) -> usize
 
 // The first flight that an event made, 0 where it made none.
 #[tactic(auto, unfolding(crate::specs::Charts::first_made))]
-fn first_made(told: &TaleEvent) -> usize
-    ensures { result ≡ charts.first_made told.now }
+fn first_made(recorded: &RecordedEvent) -> usize
+    ensures { result ≡ charts.first_made recorded.now }
 {
-    if told.flights == 0 {
+    if recorded.flights == 0 {
         return 0;
     }
-    told.first_flight as usize
+    recorded.first_flight as usize
 }
 
-// The flight that an event is about: the one that came, or the first one that it made; 0 where there is none.
+// The flight that an event is about: the one that came, or the first one that it made; 0 if there is none.
 #[tactic(auto, unfolding(crate::specs::Charts::flight_about))]
-fn flight_about(told: &TaleEvent) -> usize
-    ensures { result ≡ charts.flight_about told.now }
+fn flight_about(recorded: &RecordedEvent) -> usize
+    ensures { result ≡ charts.flight_about recorded.now }
 {
-    if flight_heard(&told.act) == 0 {
-        return first_made(told);
+    if flight_heard(&recorded.act) == 0 {
+        return first_made(recorded);
     }
-    flight_heard(&told.act)
+    flight_heard(&recorded.act)
 }
 
 #[tactic(auto, unfolding(crate::specs::Charts::head))]
@@ -211,10 +211,10 @@ impl<'a> ChartRun<'a> {
         if !self.is_hushed(event) {
             return Ok(());
         }
-        let Some(told) = self.event(event) else {
+        let Some(recorded) = self.event(event) else {
             return Ok(());
         };
-        push_dot_at(out, x_of(columns, actor_of(&told.act)), y)
+        push_dot_at(out, x_of(columns, actor_of(&recorded.act)), y)
     }
 
     fn push_others(
@@ -303,14 +303,14 @@ impl<'a> ChartRun<'a> {
 
     // Where a flight goes: to the node that hears it, or half way to the one that it is for and never came to.
     #[tactic(auto, unfolding(crate::specs::Charts::goal_at))]
-    fn goal_at(&self, columns: &[u32], event: usize, told: &TaleEvent) -> Option<usize>
-        ensures value { result ≡ charts.goal_at self.now columns.now event told.now }
+    fn goal_at(&self, columns: &[u32], event: usize, recorded: &RecordedEvent) -> Option<usize>
+        ensures value { result ≡ charts.goal_at self.now columns.now event recorded.now }
         ensures bound { IfSome result (λ x. x < 2 ^ 17) }
     {
         if self.is_hushed(event) {
-            return x_of_node(columns, self.missed_at(flight_heard(&told.act)));
+            return x_of_node(columns, self.missed_at(flight_heard(&recorded.act)));
         }
-        x_of(columns, actor_of(&told.act))
+        x_of(columns, actor_of(&recorded.act))
     }
 
     #[tactic(auto, unfolding(crate::specs::Charts::course))]
@@ -319,27 +319,27 @@ impl<'a> ChartRun<'a> {
         out: &mut Vec<u8>,
         columns: &[u32],
         event: usize,
-        told: &TaleEvent,
+        recorded: &RecordedEvent,
         from: usize,
         y: usize,
     ) -> Result<(), AllocError>
         requires { (y < 2 ^ 22) × (from < 2 ^ 17) }
-        ensures { OnOk result (out.new.items ≡ out.old.items ++ markup_text (charts.course self.now columns.now event told.now from y)) }
+        ensures { OnOk result (out.new.items ≡ out.old.items ++ markup_text (charts.course self.now columns.now event recorded.now from y)) }
     {
-        let to = self.goal_at(columns, event, told);
+        let to = self.goal_at(columns, event, recorded);
         if self.is_hushed(event) {
             return self.push_half_at(out, to, from, y);
         }
-        self.push_coming_at(out, to, outcome_of(told), from, y)
+        self.push_coming_at(out, to, outcome_of(recorded), from, y)
     }
 
     // Where the arrow of a flight points to.
     #[tactic(auto, unfolding(crate::specs::Charts::aim))]
-    fn aim(&self, columns: &[u32], event: usize, told: &TaleEvent, from: usize) -> usize
+    fn aim(&self, columns: &[u32], event: usize, recorded: &RecordedEvent, from: usize) -> usize
         requires { from < 2 ^ 17 }
-        ensures { result ≡ charts.aim self.now columns.now event told.now from }
+        ensures { result ≡ charts.aim self.now columns.now event recorded.now from }
     {
-        match self.goal_at(columns, event, told) {
+        match self.goal_at(columns, event, recorded) {
             None => from + 1,
             Some(to) => to,
         }
@@ -351,19 +351,19 @@ impl<'a> ChartRun<'a> {
         out: &mut Vec<u8>,
         columns: &[u32],
         event: usize,
-        told: &TaleEvent,
-        frame: &TaleFlight,
+        recorded: &RecordedEvent,
+        frame: &RecordedFlight,
         flight: usize,
         from: usize,
         y: usize,
     ) -> Result<(), AllocError>
         requires { (y < 2 ^ 22) × (from < 2 ^ 17) }
         ensures { OnOk result (out.new.items
-            ≡ out.old.items ++ markup_text (charts.delivery_at from frame.now self.now columns.now event told.now flight y)) }
+            ≡ out.old.items ++ markup_text (charts.delivery_at from frame.now self.now columns.now event recorded.now flight y)) }
     {
-        push_dot(out, outcome_of(told), from, y)?;
-        self.push_course(out, columns, event, told, from, y)?;
-        let to = self.aim(columns, event, told, from);
+        push_dot(out, outcome_of(recorded), from, y)?;
+        self.push_course(out, columns, event, recorded, from, y)?;
+        let to = self.aim(columns, event, recorded, from);
         push_label(out, label_x(from, to), y, flight, kind_word(frame.kind))
     }
 
@@ -374,13 +374,13 @@ impl<'a> ChartRun<'a> {
         out: &mut Vec<u8>,
         columns: &[u32],
         event: usize,
-        told: &TaleEvent,
+        recorded: &RecordedEvent,
         flight: usize,
         y: usize,
     ) -> Result<(), AllocError>
         requires { y < 2 ^ 22 }
         ensures { OnOk result (out.new.items
-            ≡ out.old.items ++ markup_text (charts.delivery self.now columns.now event told.now flight y)) }
+            ≡ out.old.items ++ markup_text (charts.delivery self.now columns.now event recorded.now flight y)) }
     {
         let Some(frame) = self.flight(flight) else {
             return Ok(());
@@ -388,7 +388,7 @@ impl<'a> ChartRun<'a> {
         let Some(from) = x_of(columns, u32::from(frame.from)) else {
             return Ok(());
         };
-        self.push_delivery_from(out, columns, event, told, &frame, flight, from, y)
+        self.push_delivery_from(out, columns, event, recorded, &frame, flight, from, y)
     }
 
     // An event that is no delivery.
@@ -397,35 +397,35 @@ impl<'a> ChartRun<'a> {
         &self,
         out: &mut Vec<u8>,
         columns: &[u32],
-        told: &TaleEvent,
+        recorded: &RecordedEvent,
         y: usize,
     ) -> Result<(), AllocError>
-        ensures { OnOk result (out.new.items ≡ out.old.items ++ markup_text (charts.doing columns.now told.now y)) }
+        ensures { OnOk result (out.new.items ≡ out.old.items ++ markup_text (charts.doing columns.now recorded.now y)) }
     {
-        if is_tick(&told.act) {
+        if is_tick(&recorded.act) {
             return push_passing(out, self.alloc, width(columns), y);
         }
-        let x = x_of_node(columns, doer_of(&told.act));
-        push_square_at(out, x, outcome_of(told), y)
+        let x = x_of_node(columns, doer_of(&recorded.act));
+        push_square_at(out, x, outcome_of(recorded), y)
     }
 
-    #[tactic(auto, unfolding(crate::specs::Charts::told_drawing))]
-    fn push_told(
+    #[tactic(auto, unfolding(crate::specs::Charts::event_drawing))]
+    fn push_event_drawing(
         &self,
         out: &mut Vec<u8>,
         columns: &[u32],
         event: usize,
-        told: &TaleEvent,
+        recorded: &RecordedEvent,
         y: usize,
     ) -> Result<(), AllocError>
         requires { y < 2 ^ 22 }
-        ensures { OnOk result (out.new.items ≡ out.old.items ++ markup_text (charts.told_drawing self.now columns.now event told.now y)) }
+        ensures { OnOk result (out.new.items ≡ out.old.items ++ markup_text (charts.event_drawing self.now columns.now event recorded.now y)) }
     {
-        let flight = flight_heard(&told.act);
+        let flight = flight_heard(&recorded.act);
         if flight == 0 {
-            return self.push_doing(out, columns, told, y);
+            return self.push_doing(out, columns, recorded, y);
         }
-        self.push_delivery(out, columns, event, told, flight, y)
+        self.push_delivery(out, columns, event, recorded, flight, y)
     }
 
     // The drawing of a row.
@@ -440,10 +440,18 @@ impl<'a> ChartRun<'a> {
         ensures { OnOk result (out.new.items ≡ out.old.items ++ markup_text (charts.row_drawing self.now columns.now events.now row.now)) }
     {
         let event = number_at(events, row.main);
-        let Some(told) = self.event(event) else {
+        let Some(recorded) = self.event(event) else {
             return Ok(());
         };
-        self.push_row_group(out, columns, events, row, event, &told, line_y(row.line))
+        self.push_row_group(
+            out,
+            columns,
+            events,
+            row,
+            event,
+            &recorded,
+            line_y(row.line),
+        )
     }
 
     #[tactic(auto, unfolding(crate::specs::Charts::row_group))]
@@ -454,22 +462,22 @@ impl<'a> ChartRun<'a> {
         events: &[usize],
         row: &Row,
         event: usize,
-        told: &TaleEvent,
+        recorded: &RecordedEvent,
         y: usize,
     ) -> Result<(), AllocError>
         requires { y < 2 ^ 22 }
         ensures { OnOk result (out.new.items
-            ≡ out.old.items ++ markup_text (charts.row_group self.now columns.now events.now row.now event told.now y)) }
+            ≡ out.old.items ++ markup_text (charts.row_group self.now columns.now events.now row.now event recorded.now y)) }
     {
         push_pieces(
             out,
             &[
                 start(Element::Group),
-                given_number(Attribute::Flight, flight_about(told)),
+                given_number(Attribute::Flight, flight_about(recorded)),
                 open(),
             ],
         )?;
-        self.push_row_content(out, columns, events, row, event, told, y)?;
+        self.push_row_content(out, columns, events, row, event, recorded, y)?;
         push_pieces(out, &[end(Element::Group)])
     }
 
@@ -481,18 +489,18 @@ impl<'a> ChartRun<'a> {
         events: &[usize],
         row: &Row,
         event: usize,
-        told: &TaleEvent,
+        recorded: &RecordedEvent,
         y: usize,
     ) -> Result<(), AllocError>
         requires { y < 2 ^ 22 }
         ensures { OnOk result (out.new.items
-            ≡ out.old.items ++ markup_text (charts.row_content self.now columns.now events.now row.now event told.now y)) }
+            ≡ out.old.items ++ markup_text (charts.row_content self.now columns.now events.now row.now event recorded.now y)) }
     {
-        let first = first_told(events, row, event, told);
-        let last = last_told(events, row, event, told);
+        let first = first_shown(events, row, event, recorded);
+        let last = last_shown(events, row, event, recorded);
         push_numbers(out, first, last, y)?;
         self.push_others(out, columns, members(events, row), y)?;
-        self.push_told(out, columns, event, told, y)
+        self.push_event_drawing(out, columns, event, recorded, y)
     }
 
     fn push_rows(
@@ -591,22 +599,22 @@ impl<'a> ChartRun<'a> {
 }
 
 // The first event of a row, or its main one where that is a flight that came.
-#[tactic(auto, unfolding(crate::specs::Charts::first_told))]
-fn first_told(events: &[usize], row: &Row, event: usize, told: &TaleEvent) -> usize
-    ensures { result ≡ charts.first_told events.now row.now event told.now }
+#[tactic(auto, unfolding(crate::specs::Charts::first_shown))]
+fn first_shown(events: &[usize], row: &Row, event: usize, recorded: &RecordedEvent) -> usize
+    ensures { result ≡ charts.first_shown events.now row.now event recorded.now }
 {
-    if flight_heard(&told.act) == 0 {
+    if flight_heard(&recorded.act) == 0 {
         return number_at(events, row.start);
     }
     event
 }
 
 // The last event of a row.
-#[tactic(auto, unfolding(crate::specs::Charts::last_told))]
-fn last_told(events: &[usize], row: &Row, event: usize, told: &TaleEvent) -> usize
-    ensures { result ≡ charts.last_told events.now row.now event told.now }
+#[tactic(auto, unfolding(crate::specs::Charts::last_shown))]
+fn last_shown(events: &[usize], row: &Row, event: usize, recorded: &RecordedEvent) -> usize
+    ensures { result ≡ charts.last_shown events.now row.now event recorded.now }
 {
-    if flight_heard(&told.act) == 0 {
+    if flight_heard(&recorded.act) == 0 {
         return number_at(events, row.end.saturating_sub(1));
     }
     event

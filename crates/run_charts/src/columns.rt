@@ -4,7 +4,7 @@ ghost use Rattle.run_charts.specs.Columns as spec_columns;
 
 use crate::row::flight_heard;
 use crate::run::ChartRun;
-use line_tale::{Act, TaleEvent, TaleFlight, actor_of, is_setup, made_by};
+use line_record::{Act, RecordedEvent, RecordedFlight, actor_of, is_setup, made_by};
 use std::alloc::AllocError;
 
 // The place of the first column of a node that is not before this one.
@@ -50,7 +50,7 @@ fn add_node(columns: &mut Vec<u32>, node: Option<u32>) -> Result<(), AllocError>
     }
 }
 
-fn add_senders(columns: &mut Vec<u32>, flights: &[TaleFlight]) -> Result<(), AllocError>
+fn add_senders(columns: &mut Vec<u32>, flights: &[RecordedFlight]) -> Result<(), AllocError>
     ensures { OnOk result (columns.new.items ≡ spec_columns.with_senders flights.now columns.old.items) }
 {
     for flight in flights {
@@ -99,17 +99,17 @@ impl<'a> ChartRun<'a> {
 
     // The node that hears a flight at an event, if it is for it; else the node that it is for and never came to.
     #[tactic(auto, unfolding(crate::specs::Columns::hearer_of))]
-    fn hearer_of(&self, event: usize, told: &TaleEvent) -> Option<u32>
-        ensures { result ≡ spec_columns.hearer_of self.now event told.now }
+    fn hearer_of(&self, event: usize, recorded: &RecordedEvent) -> Option<u32>
+        ensures { result ≡ spec_columns.hearer_of self.now event recorded.now }
     {
-        let flight = flight_heard(&told.act);
+        let flight = flight_heard(&recorded.act);
         if flight == 0 {
             return None;
         }
         if self.is_hushed(event) {
             return self.missed_at(flight);
         }
-        Some(actor_of(&told.act))
+        Some(actor_of(&recorded.act))
     }
 
     // The nodes that take part in an event.
@@ -117,13 +117,16 @@ impl<'a> ChartRun<'a> {
     fn add_event(&self, columns: &mut Vec<u32>, event: usize) -> Result<(), AllocError>
         ensures { OnOk result (columns.new.items ≡ spec_columns.with_event self.now event columns.old.items) }
     {
-        let Some(told) = self.event(event) else {
+        let Some(recorded) = self.event(event) else {
             return Ok(());
         };
-        add_node(columns, doer_of(&told.act))?;
-        add_node(columns, self.sender_of(flight_heard(&told.act)))?;
-        add_node(columns, self.hearer_of(event, &told))?;
-        add_senders(columns, made_by(&told, self.tale.flights.as_slice()))
+        add_node(columns, doer_of(&recorded.act))?;
+        add_node(columns, self.sender_of(flight_heard(&recorded.act)))?;
+        add_node(columns, self.hearer_of(event, &recorded))?;
+        add_senders(
+            columns,
+            made_by(&recorded, self.run_record.flights.as_slice()),
+        )
     }
 
     /// The nodes that take part in these events, by their numbers.

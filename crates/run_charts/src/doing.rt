@@ -1,9 +1,9 @@
 //! What an event did whose sentence is no more than the word of its answer.
 ghost use Rattle.std.specs.Prelude.{◌≡◌, IfOk, string_bytes};
-ghost use Rattle.run_charts.specs.Doings as doings;
+ghost use Rattle.run_charts.specs.EventDeeds as event_deeds;
 
+use line_record::{Act, RecordedEvent};
 use line_script::answer_word;
-use line_tale::{Act, TaleEvent};
 use sentence_parts::{node, number, sentence, words};
 use std::alloc::{AllocError, Global};
 
@@ -16,7 +16,7 @@ pub enum Doing {
     Shows { at: u32 },
     /// A node restarted.
     Restarts { at: u32 },
-    /// So many seconds passed.
+    /// This many seconds passed.
     Passes { seconds: u32 },
     /// A group key was drawn for an index.
     Draws { index: u8 },
@@ -29,7 +29,7 @@ pub enum Doing {
 }
 
 fn doing_of(act: &Act) -> Doing
-    ensures { result ≡ doings.doing_of act.now }
+    ensures { result ≡ event_deeds.doing_of act.now }
 {
     match act {
         Act::Break { node: at, next } => Doing::Breaks {
@@ -46,9 +46,9 @@ fn doing_of(act: &Act) -> Doing
     }
 }
 
-#[tactic(auto, unfolding(crate::specs::Doings::break_text))]
+#[tactic(auto, unfolding(crate::specs::EventDeeds::break_text))]
 fn break_text(alloc: Global, at: u32, next: u32) -> Result<String, AllocError>
-    ensures { IfOk result (λ text. string_bytes text ≡ doings.break_text at next) }
+    ensures { IfOk result (λ text. string_bytes text ≡ event_deeds.break_text at next) }
 {
     sentence(
         alloc,
@@ -61,30 +61,30 @@ fn break_text(alloc: Global, at: u32, next: u32) -> Result<String, AllocError>
     )
 }
 
-#[tactic(auto, unfolding(crate::specs::Doings::show_text))]
+#[tactic(auto, unfolding(crate::specs::EventDeeds::show_text))]
 fn show_text(alloc: Global, at: u32) -> Result<String, AllocError>
-    ensures { IfOk result (λ text. string_bytes text ≡ doings.show_text at) }
+    ensures { IfOk result (λ text. string_bytes text ≡ event_deeds.show_text at) }
 {
     sentence(alloc, &[words("what "), node(at), words(" shows")])
 }
 
-#[tactic(auto, unfolding(crate::specs::Doings::restart_text))]
+#[tactic(auto, unfolding(crate::specs::EventDeeds::restart_text))]
 fn restart_text(alloc: Global, at: u32) -> Result<String, AllocError>
-    ensures { IfOk result (λ text. string_bytes text ≡ doings.restart_text at) }
+    ensures { IfOk result (λ text. string_bytes text ≡ event_deeds.restart_text at) }
 {
     sentence(alloc, &[node(at), words(" restarts with what it stored")])
 }
 
-#[tactic(auto, unfolding(crate::specs::Doings::passing_text))]
+#[tactic(auto, unfolding(crate::specs::EventDeeds::passing_text))]
 fn passing_text(alloc: Global, seconds: u32) -> Result<String, AllocError>
-    ensures { IfOk result (λ text. string_bytes text ≡ doings.passing_text seconds) }
+    ensures { IfOk result (λ text. string_bytes text ≡ event_deeds.passing_text seconds) }
 {
     sentence(alloc, &[number(seconds as usize), words(" s pass")])
 }
 
-#[tactic(auto, unfolding(crate::specs::Doings::draw_text))]
+#[tactic(auto, unfolding(crate::specs::EventDeeds::draw_text))]
 fn draw_text(alloc: Global, index: u8) -> Result<String, AllocError>
-    ensures { IfOk result (λ text. string_bytes text ≡ doings.draw_text index) }
+    ensures { IfOk result (λ text. string_bytes text ≡ event_deeds.draw_text index) }
 {
     sentence(
         alloc,
@@ -95,9 +95,9 @@ fn draw_text(alloc: Global, index: u8) -> Result<String, AllocError>
     )
 }
 
-#[tactic(auto, unfolding(crate::specs::Doings::counter_text))]
+#[tactic(auto, unfolding(crate::specs::EventDeeds::counter_text))]
 fn counter_text(alloc: Global, at: u32) -> Result<String, AllocError>
-    ensures { IfOk result (λ text. string_bytes text ≡ doings.counter_text at) }
+    ensures { IfOk result (λ text. string_bytes text ≡ event_deeds.counter_text at) }
 {
     sentence(
         alloc,
@@ -105,9 +105,9 @@ fn counter_text(alloc: Global, at: u32) -> Result<String, AllocError>
     )
 }
 
-#[tactic(auto, unfolding(crate::specs::Doings::number_text))]
+#[tactic(auto, unfolding(crate::specs::EventDeeds::number_text))]
 fn number_text(alloc: Global, at: u32) -> Result<String, AllocError>
-    ensures { IfOk result (λ text. string_bytes text ≡ doings.number_text at) }
+    ensures { IfOk result (λ text. string_bytes text ≡ event_deeds.number_text at) }
 {
     sentence(
         alloc,
@@ -116,7 +116,7 @@ fn number_text(alloc: Global, at: u32) -> Result<String, AllocError>
 }
 
 fn text_of(alloc: Global, doing: &Doing, word: &str) -> Result<String, AllocError>
-    ensures { IfOk result (λ text. string_bytes text ≡ doings.text_of doing.now word.now) }
+    ensures { IfOk result (λ text. string_bytes text ≡ event_deeds.text_of doing.now word.now) }
 {
     match doing {
         Doing::Breaks { at, next } => break_text(alloc, *at, *next),
@@ -131,9 +131,13 @@ fn text_of(alloc: Global, doing: &Doing, word: &str) -> Result<String, AllocErro
 }
 
 /// What an event did, by its line alone.
-#[tactic(auto, unfolding(crate::specs::Doings::doing_text))]
-pub fn doing_text(alloc: Global, told: &TaleEvent) -> Result<String, AllocError>
-    ensures { IfOk result (λ text. string_bytes text ≡ doings.doing_text told.now) }
+#[tactic(auto, unfolding(crate::specs::EventDeeds::doing_text))]
+pub fn doing_text(alloc: Global, recorded: &RecordedEvent) -> Result<String, AllocError>
+    ensures { IfOk result (λ text. string_bytes text ≡ event_deeds.doing_text recorded.now) }
 {
-    text_of(alloc, &doing_of(&told.act), answer_word(told.answer))
+    text_of(
+        alloc,
+        &doing_of(&recorded.act),
+        answer_word(recorded.answer),
+    )
 }

@@ -28,7 +28,7 @@ pub fn line_y(line: usize) -> usize
     51 + 26 * line.min(100_000)
 }
 
-// An outline has at most about so many octets.
+// An outline has at most about this many octets.
 const OUTLINE_OCTETS: usize = 32;
 
 // An outline of these parts, in a text that seldom moves while it grows.

@@ -8,7 +8,7 @@ use crate::chart::{is_tick, name};
 use crate::drawing::{push_bar, push_path};
 use crate::outcome::Outcome;
 use crate::run::ChartRun;
-use line_tale::TaleEvent;
+use line_record::RecordedEvent;
 use markup::{Attribute, Element};
 use markup_parts::{count, end, given, given_number, open, push_pieces, start, text};
 use node_pasts::{Change, Mode};
@@ -26,7 +26,7 @@ pub enum LaneSize {
     Low,
 }
 
-// How high the lanes of so many nodes are.
+// How high the lanes of this many nodes are.
 #[tactic(auto, unfolding(crate::specs::Lanes::size_of))]
 fn size_of(nodes: usize) -> LaneSize
     ensures { result ≡ spec_lanes.size_of nodes }
@@ -75,7 +75,7 @@ fn name_drop(size: LaneSize) -> usize
     }
 }
 
-// Where the event at a place is, from 0 among so many.
+// Where the event at a place is, from 0 among this many.
 #[tactic(auto, unfolding(crate::specs::Lanes::x_of))]
 fn x_of(place: usize, events: usize) -> usize
     ensures value { result ≡ spec_lanes.x_of place events }
@@ -132,7 +132,7 @@ fn push_change(
     )
 }
 
-// Where the change of a number is among so many events; their end, where there is none.
+// Where the change of a number is among this many events; their end, where there is none.
 fn next_at(changes: &[Change], number: usize, events: usize) -> usize
     ensures { result ≡ spec_lanes.next_at changes.now number events }
 {
@@ -222,10 +222,10 @@ fn push_name_if(
 
 // Whether an event is a tick that is far enough from the one before it: it is from this place on.
 #[tactic(auto, unfolding(crate::specs::Lanes::is_shown))]
-fn is_shown(told: &TaleEvent, x: usize, free: usize) -> bool
-    ensures { result ≡ spec_lanes.is_shown told.now x free }
+fn is_shown(recorded: &RecordedEvent, x: usize, free: usize) -> bool
+    ensures { result ≡ spec_lanes.is_shown recorded.now x free }
 {
-    is_tick(&told.act) && free <= x
+    is_tick(&recorded.act) && free <= x
 }
 
 #[tactic(auto, unfolding(crate::specs::Lanes::tick_outline))]
@@ -305,16 +305,16 @@ fn free_after(holds: bool, x: usize, free: usize) -> usize
 fn push_ticks(
     out: &mut Vec<u8>,
     alloc: Global,
-    events: &[TaleEvent],
+    events: &[RecordedEvent],
     bottom: usize,
 ) -> Result<(), AllocError>
     ensures { OnOk result (out.new.items ≡ out.old.items ++ markup_text (spec_lanes.ticks events.now bottom)) }
 {
     let mut free = 0;
-    for (place, told) in events.iter().enumerate() {
+    for (place, recorded) in events.iter().enumerate() {
         let x = x_of(place, events.len());
-        let holds = is_shown(told, x, free);
-        push_tick_if(out, alloc, holds, x, bottom, told.clock)?;
+        let holds = is_shown(recorded, x, free);
+        push_tick_if(out, alloc, holds, x, bottom, recorded.clock)?;
         free = free_after(holds, x, free);
     }
     Ok(())
@@ -334,7 +334,7 @@ fn mark_size(outcome: Outcome, size: LaneSize) -> usize
     }
 }
 
-// From a place down so many pixels.
+// From a place down this many pixels.
 #[tactic(auto, unfolding(crate::specs::Lanes::downwards))]
 fn push_downwards(
     outline: &mut String,
@@ -486,12 +486,12 @@ impl<'a> ChartRun<'a> {
         ensures { OnOk result (out.new.items ≡ out.old.items ++ markup_text (spec_lanes.lane self.now size number)) }
     {
         push_name_if(out, self.alloc, has_name(number, size), number, size)?;
-        let events = self.tale.events.len();
+        let events = self.run_record.events.len();
         let changes = self.pasts.changes(number as usize);
         push_changes(out, events, size, number as usize, changes)
     }
 
-    // The lanes of so many nodes.
+    // The lanes of this many nodes.
     fn push_lanes_of(&self, out: &mut Vec<u8>, size: LaneSize, nodes: u32) -> Result<(), AllocError>
         ensures { OnOk result (out.new.items ≡ out.old.items ++ markup_text (spec_lanes.lanes_of self.now size nodes)) }
     {
@@ -513,7 +513,7 @@ impl<'a> ChartRun<'a> {
         let nodes = self.pasts.len();
         self.push_lanes_of(out, size, nodes.min(LANES) as u32)?;
         let bottom = y_of(nodes, size);
-        push_ticks(out, self.alloc, self.tale.events.as_slice(), bottom)?;
+        push_ticks(out, self.alloc, self.run_record.events.as_slice(), bottom)?;
         push_all_marks(out, self.alloc, size, ranks)
     }
 
@@ -550,6 +550,6 @@ pub fn push_lanes(out: &mut Vec<u8>, run: &ChartRun<'_>) -> Result<(), AllocErro
     ensures { OnOk result (out.new.items ≡ out.old.items ++ markup_text (spec_lanes.lanes run.now)) }
 {
     let nodes = run.pasts.len();
-    let ranks = ranks_of(run.alloc, nodes, run.tale.events.as_slice())?;
+    let ranks = ranks_of(run.alloc, nodes, run.run_record.events.as_slice())?;
     run.push_lane_drawing(out, size_of(nodes), ranks.as_slice())
 }

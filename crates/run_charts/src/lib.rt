@@ -2,7 +2,7 @@
 //! Lanes: each node over the whole run, coloured by what it was, with a mark for each two pixels, the worst that happened there.
 //!
 //! ```text
-//! let run = ChartRun { alloc, tale: &tale, lots: &lots, sentences: &sentences, notes: &[], pasts: &pasts };
+//! let run = ChartRun { alloc, run_record: &run_record, courses: &courses, sentences: &sentences, notes: &[], pasts: &pasts };
 //! push_chart(&mut out, &run, &[8, 9, 10])?;
 //! push_lanes(&mut out, &run)?;
 //! ```

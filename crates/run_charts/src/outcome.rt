@@ -3,7 +3,7 @@ ghost use Rattle.std.specs.Prelude.{◌≡◌};
 ghost use Rattle.run_charts.specs.Outcomes as outcomes;
 
 use line_events::Answer;
-use line_tale::TaleEvent;
+use line_record::RecordedEvent;
 
 /// How an event ended, as far as it has a colour.
 #[derive(Clone, Copy, Debug, PartialEq, Eq)]
@@ -44,16 +44,16 @@ fn fine_or_good(answer: Answer) -> Outcome
 
 /// How an event ended.
 #[tactic(auto, unfolding(crate::specs::Outcomes::outcome_of))]
-pub fn outcome_of(told: &TaleEvent) -> Outcome
-    ensures { result ≡ outcomes.outcome_of told.now }
+pub fn outcome_of(recorded: &RecordedEvent) -> Outcome
+    ensures { result ≡ outcomes.outcome_of recorded.now }
 {
-    if told.forged {
+    if recorded.forged {
         return Outcome::Forged;
     }
-    if told.answer.is_ok() {
-        return fine_or_good(told.answer);
+    if recorded.answer.is_ok() {
+        return fine_or_good(recorded.answer);
     }
-    refused_or_overheard(told.answer)
+    refused_or_overheard(recorded.answer)
 }
 
 /// Whether an arrow of it ends in a cross.

@@ -3,7 +3,7 @@ ghost use Rattle.std.specs.Prelude.{◌≡◌, ◌<◌, ◌≤◌, ◌^◌, IfOk
 ghost use Rattle.run_charts.specs.Rows as spec_rows;
 
 use crate::run::ChartRun;
-use line_tale::{Act, TaleEvent, is_setup, readies};
+use line_record::{Act, RecordedEvent, is_setup, prepares};
 use std::alloc::AllocError;
 
 /// A row of a chart: events that follow each other in the list of its events, by their places there from 0.
@@ -40,10 +40,10 @@ pub fn flight_heard(act: &Act) -> usize
     }
 }
 
-fn readies_one(act: &Act) -> bool
-    ensures { result ≡ spec_rows.readies_one act.now }
+fn prepares_one(act: &Act) -> bool
+    ensures { result ≡ spec_rows.prepares_one act.now }
 {
-    match readies(act) {
+    match prepares(act) {
         None => false,
         Some(_) => true,
     }
@@ -54,7 +54,7 @@ fn readies_one(act: &Act) -> bool
 fn is_alike(act: &Act, other: &Act) -> bool
     ensures { result ≡ spec_rows.is_alike act.now other.now }
 {
-    (is_setup(act) && is_setup(other)) || (readies_one(act) && readies_one(other))
+    (is_setup(act) && is_setup(other)) || (prepares_one(act) && prepares_one(other))
 }
 
 #[tactic(auto, unfolding(crate::specs::Rows::is_same_flight))]
@@ -66,13 +66,18 @@ fn is_same_flight(act: &Act, other: &Act) -> bool
 
 // How an event stands to the main event of the row before it. Of each, the flag says whether it has no sentence.
 #[tactic(auto, unfolding(crate::specs::Rows::joint_between))]
-fn joint_between(told: &TaleEvent, hushed: bool, main: &TaleEvent, main_hushed: bool) -> Joint
-    ensures { result ≡ spec_rows.joint_between told.now hushed main.now main_hushed }
+fn joint_between(
+    recorded: &RecordedEvent,
+    hushed: bool,
+    main: &RecordedEvent,
+    main_hushed: bool,
+) -> Joint
+    ensures { result ≡ spec_rows.joint_between recorded.now hushed main.now main_hushed }
 {
-    if is_alike(&told.act, &main.act) {
+    if is_alike(&recorded.act, &main.act) {
         return Joint::Along;
     }
-    if !is_same_flight(&told.act, &main.act) {
+    if !is_same_flight(&recorded.act, &main.act) {
         return Joint::Apart;
     }
     if hushed {
@@ -84,7 +89,7 @@ fn joint_between(told: &TaleEvent, hushed: bool, main: &TaleEvent, main_hushed: 
     Joint::Apart
 }
 
-/// The number at a place of a list, 0 where there is none.
+/// The number at a place of a list, 0 if there is none.
 #[tactic(auto, unfolding(crate::specs::Rows::number_at))]
 pub fn number_at(numbers: &[usize], place: usize) -> usize
     ensures { result ≡ spec_rows.number_at numbers.now place }
@@ -117,7 +122,7 @@ fn note_lines(note: &str) -> usize
     1
 }
 
-/// The line after a row, 0 where there is none.
+/// The line after a row, 0 if there is none.
 pub fn line_after(last: Option<Row>) -> usize
     ensures value { result ≡ spec_rows.line_after last }
     ensures bound { result < 2 ^ 17 }
@@ -159,13 +164,18 @@ impl<'a> ChartRun<'a> {
         if !self.note(event).is_empty() {
             return Joint::Apart;
         }
-        let Some(told) = self.event(event) else {
+        let Some(recorded) = self.event(event) else {
             return Joint::Apart;
         };
         let Some(before) = self.event(main) else {
             return Joint::Apart;
         };
-        joint_between(&told, self.is_hushed(event), &before, self.is_hushed(main))
+        joint_between(
+            &recorded,
+            self.is_hushed(event),
+            &before,
+            self.is_hushed(main),
+        )
     }
 
     // Begins a row with the event at a place.

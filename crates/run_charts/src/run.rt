@@ -1,9 +1,9 @@
 //! The run that charts are drawn of.
 ghost use Rattle.std.specs.Prelude.{◌≡◌, map, string_bytes};
-ghost use Rattle.line_tale.specs.Tales.{numbered};
+ghost use Rattle.line_record.specs.RunRecords.{numbered};
 ghost use Rattle.run_charts.specs.Runs as spec_runs;
 
-use line_tale::{Fate, Lot, Tale, TaleEvent, TaleFlight};
+use line_record::{Course, Fate, RecordedEvent, RecordedFlight, RunRecord};
 use node_pasts::Pasts;
 use std::alloc::Global;
 use std::marker::Model;
@@ -14,9 +14,9 @@ pub struct ChartRun<'a> {
     /// Where texts are made.
     pub alloc: Global,
     /// The run.
-    pub tale: &'a Tale,
+    pub run_record: &'a RunRecord,
     /// What became of each flight.
-    pub lots: &'a [Lot],
+    pub courses: &'a [Course],
     /// The sentence of each event. What came to a node that it is not for has no words.
     pub sentences: &'a [String],
     /// What the script says before each event. No words where it says nothing.
@@ -32,9 +32,9 @@ impl<'a> Model for ChartRun<'a> {
     ghost Value = { Run };
 
     ghost view = { λ r. record {
-      events = r.tale.now.events.items;
-      flights = r.tale.now.flights.items;
-      lots = r.lots.now;
+      events = r.run_record.now.events.items;
+      flights = r.run_record.now.flights.items;
+      courses = r.courses.now;
       sentences = map string_bytes r.sentences.now;
       notes = map string_bytes r.notes.now;
       pasts = r.pasts.now;
@@ -67,27 +67,27 @@ pub fn is_missed(fate: &Fate) -> bool
 
 impl<'a> ChartRun<'a> {
     /// The event of a number, if there is one.
-    pub fn event(&self, number: usize) -> Option<TaleEvent>
+    pub fn event(&self, number: usize) -> Option<RecordedEvent>
         ensures { result ≡ numbered self.now.events number }
     {
-        self.tale.event(number).copied()
+        self.run_record.event(number).copied()
     }
 
     /// The flight of a number, if there is one.
-    pub fn flight(&self, number: usize) -> Option<TaleFlight>
+    pub fn flight(&self, number: usize) -> Option<RecordedFlight>
         ensures { result ≡ numbered self.now.flights number }
     {
-        self.tale.flight(number).copied()
+        self.run_record.flight(number).copied()
     }
 
     /// What became of the flight of a number, if there is one.
-    pub fn lot(&self, number: usize) -> Option<Lot>
-        ensures { result ≡ numbered self.now.lots number }
+    pub fn course(&self, number: usize) -> Option<Course>
+        ensures { result ≡ numbered self.now.courses number }
     {
         if number == 0 {
             return None;
         }
-        self.lots.get(number - 1).copied()
+        self.courses.get(number - 1).copied()
     }
 
     /// The sentence of an event, no words where there is none.
@@ -119,11 +119,11 @@ impl<'a> ChartRun<'a> {
     pub fn missed_at(&self, flight: usize) -> Option<u32>
         ensures { result ≡ spec_runs.missed_at self.now flight }
     {
-        let Some(lot) = self.lot(flight) else {
+        let Some(course) = self.course(flight) else {
             return None;
         };
-        if is_missed(&lot.fate) {
-            return lot.to;
+        if is_missed(&course.fate) {
+            return course.to;
         }
         None
     }

@@ -1,16 +1,16 @@
 //! The sentences beside the rows of a chart.
 ghost use Rattle.std.specs.Prelude.{◌≡◌, ◌<◌, ◌^◌, ◌++◌, IfOk, OnOk, string_bytes};
-ghost use Rattle.markup.specs.Writing.{end_tag};
+ghost use Rattle.markup.specs.ElementTexts.{end_tag};
 ghost use Rattle.markup.specs.declared.names.Element.TheVariants as E;
 ghost use Rattle.markup_parts.specs.Markups.{markup_text};
-ghost use Rattle.run_charts.specs.Sayings as sayings;
+ghost use Rattle.run_charts.specs.RowSentences as sayings;
 
 use crate::doing::doing_text;
 use crate::outcome::{outcome_of, pill_class};
 use crate::row::{Row, flight_heard, members, number_at};
 use crate::run::{ChartRun, is_missed};
+use line_record::{Act, Course, Fate, RecordedEvent, is_setup, made_by};
 use line_script::answer_word;
-use line_tale::{Act, Fate, Lot, TaleEvent, is_setup, made_by};
 use markup::{Attribute, Element};
 use markup_parts::{count, end, given, given_number, open, push_pieces, start, text};
 use sentence_parts::{number, sentence, words};
@@ -19,16 +19,16 @@ use std::alloc::{AllocError, Global};
 /// How many nodes and routes some lines of the setup make.
 #[derive(Clone, Copy, Debug, PartialEq, Eq)]
 pub struct Made {
-    /// So many nodes.
+    /// This many nodes.
     pub nodes: usize,
-    /// So many of them were joined in the workshop.
+    /// This many of them were joined in the workshop.
     pub joined: usize,
-    /// So many pairs have a route to each other.
+    /// This many pairs have a route to each other.
     pub routes: usize,
 }
 
 // One more. A run has at most 50,000 events.
-#[tactic(auto, unfolding(crate::specs::Sayings::more))]
+#[tactic(auto, unfolding(crate::specs::RowSentences::more))]
 fn more(old: usize, holds: bool) -> usize
     ensures { result ≡ sayings.more old holds }
 {
@@ -66,7 +66,7 @@ fn is_routed(act: &Act) -> bool
     }
 }
 
-#[tactic(auto, unfolding(crate::specs::Sayings::made_more))]
+#[tactic(auto, unfolding(crate::specs::RowSentences::made_more))]
 fn made_more(made: Made, act: &Act) -> Made
     ensures { result ≡ sayings.made_more made act.now }
 {
@@ -78,11 +78,11 @@ fn made_more(made: Made, act: &Act) -> Made
 }
 
 // Whether nobody heard a flight.
-#[tactic(auto, unfolding(crate::specs::Sayings::is_unheard))]
-fn is_unheard(lot: &Lot) -> bool
-    ensures { result ≡ sayings.is_unheard lot.now }
+#[tactic(auto, unfolding(crate::specs::RowSentences::is_unheard))]
+fn is_unheard(course: &Course) -> bool
+    ensures { result ≡ sayings.is_unheard course.now }
 {
-    is_missed(&lot.fate) && !lot.overheard
+    is_missed(&course.fate) && !course.overheard
 }
 
 fn late_words(fate: &Fate) -> &'static str
@@ -94,7 +94,7 @@ fn late_words(fate: &Fate) -> &'static str
     }
 }
 
-#[tactic(auto, unfolding(crate::specs::Sayings::setup_words))]
+#[tactic(auto, unfolding(crate::specs::RowSentences::setup_words))]
 fn setup_text(alloc: Global, made: Made) -> Result<String, AllocError>
     ensures { IfOk result (λ text. string_bytes text ≡ sayings.setup_words made) }
 {
@@ -112,7 +112,7 @@ fn setup_text(alloc: Global, made: Made) -> Result<String, AllocError>
 }
 
 // What a flight did that came only to nodes that it is not for.
-#[tactic(auto, unfolding(crate::specs::Sayings::overheard))]
+#[tactic(auto, unfolding(crate::specs::RowSentences::overheard))]
 fn overheard_text(alloc: Global, flight: usize, nodes: usize) -> Result<String, AllocError>
     ensures { IfOk result (λ text. string_bytes text ≡ sayings.overheard flight nodes) }
 {
@@ -128,22 +128,22 @@ fn overheard_text(alloc: Global, flight: usize, nodes: usize) -> Result<String, 
 }
 
 // Whether a row is several lines of the setup.
-#[tactic(auto, unfolding(crate::specs::Sayings::is_setup_row))]
-fn is_setup_row(told: &TaleEvent, events: usize) -> bool
-    ensures { result ≡ sayings.is_setup_row told.now events }
+#[tactic(auto, unfolding(crate::specs::RowSentences::is_setup_row))]
+fn is_setup_row(recorded: &RecordedEvent, events: usize) -> bool
+    ensures { result ≡ sayings.is_setup_row recorded.now events }
 {
-    is_setup(&told.act) && events > 1
+    is_setup(&recorded.act) && events > 1
 }
 
 // Whether a row is a flight that came only to nodes that it is not for.
-#[tactic(auto, unfolding(crate::specs::Sayings::is_overheard))]
-fn is_overheard(told: &TaleEvent, hushed: bool) -> bool
-    ensures { result ≡ sayings.is_overheard told.now hushed }
+#[tactic(auto, unfolding(crate::specs::RowSentences::is_overheard))]
+fn is_overheard(recorded: &RecordedEvent, hushed: bool) -> bool
+    ensures { result ≡ sayings.is_overheard recorded.now hushed }
 {
-    flight_heard(&told.act) != 0 && hushed
+    flight_heard(&recorded.act) != 0 && hushed
 }
 
-#[tactic(auto, unfolding(crate::specs::Sayings::unheard))]
+#[tactic(auto, unfolding(crate::specs::RowSentences::unheard))]
 fn push_unheard(out: &mut Vec<u8>, flight: usize, words: &str) -> Result<(), AllocError>
     ensures { OnOk result (out.new.items ≡ out.old.items ++ markup_text (sayings.unheard flight words.now)) }
 {
@@ -161,27 +161,27 @@ fn push_unheard(out: &mut Vec<u8>, flight: usize, words: &str) -> Result<(), All
     )
 }
 
-fn push_unheard_lot(out: &mut Vec<u8>, flight: usize, lot: &Lot) -> Result<(), AllocError>
-    ensures { OnOk result (out.new.items ≡ out.old.items ++ markup_text (sayings.unheard_if (sayings.is_unheard lot.now) flight lot.now)) }
+fn push_unheard_lot(out: &mut Vec<u8>, flight: usize, course: &Course) -> Result<(), AllocError>
+    ensures { OnOk result (out.new.items ≡ out.old.items ++ markup_text (sayings.unheard_if (sayings.is_unheard course.now) flight course.now)) }
 {
-    if is_unheard(lot) {
-        return push_unheard(out, flight, late_words(&lot.fate));
+    if is_unheard(course) {
+        return push_unheard(out, flight, late_words(&course.fate));
     }
     Ok(())
 }
 
 // Of these flights, from this number on, those that nobody heard.
-fn push_unheard_lots(out: &mut Vec<u8>, first: usize, lots: &[Lot]) -> Result<(), AllocError>
+fn push_unheard_lots(out: &mut Vec<u8>, first: usize, courses: &[Course]) -> Result<(), AllocError>
     requires { first < 2 ^ 32 }
-    ensures { OnOk result (out.new.items ≡ out.old.items ++ markup_text (sayings.late_from first lots.now)) }
+    ensures { OnOk result (out.new.items ≡ out.old.items ++ markup_text (sayings.late_from first courses.now)) }
 {
-    for (i, lot) in lots.iter().enumerate() {
-        push_unheard_lot(out, first + i, lot)?;
+    for (i, course) in courses.iter().enumerate() {
+        push_unheard_lot(out, first + i, course)?;
     }
     Ok(())
 }
 
-#[tactic(auto, unfolding(crate::specs::Sayings::full_note))]
+#[tactic(auto, unfolding(crate::specs::RowSentences::full_note))]
 fn push_full_note(out: &mut Vec<u8>, note: &str) -> Result<(), AllocError>
     ensures { OnOk result (out.new.items ≡ out.old.items ++ markup_text (sayings.full_note note.now)) }
 {
@@ -198,7 +198,7 @@ fn push_full_note(out: &mut Vec<u8>, note: &str) -> Result<(), AllocError>
     )
 }
 
-#[tactic(auto, unfolding(crate::specs::Sayings::note_item))]
+#[tactic(auto, unfolding(crate::specs::RowSentences::note_item))]
 fn push_note(out: &mut Vec<u8>, note: &str) -> Result<(), AllocError>
     ensures { OnOk result (out.new.items ≡ out.old.items ++ markup_text (sayings.note_item note.now)) }
 {
@@ -208,17 +208,17 @@ fn push_note(out: &mut Vec<u8>, note: &str) -> Result<(), AllocError>
     push_full_note(out, note)
 }
 
-#[tactic(auto, unfolding(crate::specs::Sayings::pill))]
-fn push_pill(out: &mut Vec<u8>, told: &TaleEvent) -> Result<(), AllocError>
-    ensures { OnOk result (out.new.items ≡ out.old.items ++ markup_text (sayings.pill told.now)) }
+#[tactic(auto, unfolding(crate::specs::RowSentences::pill))]
+fn push_pill(out: &mut Vec<u8>, recorded: &RecordedEvent) -> Result<(), AllocError>
+    ensures { OnOk result (out.new.items ≡ out.old.items ++ markup_text (sayings.pill recorded.now)) }
 {
     push_pieces(
         out,
         &[
             start(Element::Span),
-            given(Attribute::Class, pill_class(outcome_of(told))),
+            given(Attribute::Class, pill_class(outcome_of(recorded))),
             open(),
-            text(answer_word(told.answer)),
+            text(answer_word(recorded.answer)),
             end(Element::Span),
         ],
     )
@@ -231,7 +231,7 @@ fn push_item_end(out: &mut Vec<u8>) -> Result<(), AllocError>
 }
 
 // Words after others.
-#[tactic(auto, unfolding(crate::specs::Sayings::joined_words))]
+#[tactic(auto, unfolding(crate::specs::RowSentences::joined_words))]
 fn push_joined(text: &mut String, words: &str) -> Result<(), AllocError>
     ensures { OnOk result (string_bytes text.new ≡ sayings.joined_words (string_bytes text.old) words.now) }
 {
@@ -246,7 +246,7 @@ fn push_joined(text: &mut String, words: &str) -> Result<(), AllocError>
 }
 
 impl<'a> ChartRun<'a> {
-    #[tactic(auto, unfolding(crate::specs::Sayings::made_by_all))]
+    #[tactic(auto, unfolding(crate::specs::RowSentences::made_by_all))]
     fn made(&self, events: &[usize]) -> Made
         ensures { result ≡ sayings.made_by_all self.now events.now }
     {
@@ -261,14 +261,14 @@ impl<'a> ChartRun<'a> {
         made
     }
 
-    #[tactic(auto, unfolding(crate::specs::Sayings::with_made))]
+    #[tactic(auto, unfolding(crate::specs::RowSentences::with_made))]
     fn with_made(&self, made: Made, event: usize) -> Made
         ensures { result ≡ sayings.with_made self.now made event }
     {
-        let Some(told) = self.event(event) else {
+        let Some(recorded) = self.event(event) else {
             return made;
         };
-        made_more(made, &told.act)
+        made_more(made, &recorded.act)
     }
 
     // The sentences of some events.
@@ -282,16 +282,16 @@ impl<'a> ChartRun<'a> {
     }
 
     // What is said of an event: its sentence, where that is more than the word of its answer.
-    #[tactic(auto, unfolding(crate::specs::Sayings::said))]
+    #[tactic(auto, unfolding(crate::specs::RowSentences::said))]
     fn said(&self, event: usize) -> Result<String, AllocError>
         ensures { IfOk result (λ text. string_bytes text ≡ sayings.said self.now event) }
     {
         let why = self.why(event);
-        let Some(told) = self.event(event) else {
+        let Some(recorded) = self.event(event) else {
             return String::from_str(self.alloc, why);
         };
-        if why == answer_word(told.answer) {
-            return doing_text(self.alloc, &told);
+        if why == answer_word(recorded.answer) {
+            return doing_text(self.alloc, &recorded);
         }
         String::from_str(self.alloc, why)
     }
@@ -304,22 +304,22 @@ impl<'a> ChartRun<'a> {
     }
 
     // The words of a row.
-    #[tactic(auto, unfolding(crate::specs::Sayings::row_words))]
+    #[tactic(auto, unfolding(crate::specs::RowSentences::row_words))]
     fn words_of(
         &self,
         events: &[usize],
         row: &Row,
         event: usize,
-        told: &TaleEvent,
+        recorded: &RecordedEvent,
     ) -> Result<String, AllocError>
-        ensures { IfOk result (λ text. string_bytes text ≡ sayings.row_words self.now events.now row.now event told.now) }
+        ensures { IfOk result (λ text. string_bytes text ≡ sayings.row_words self.now events.now row.now event recorded.now) }
     {
         let all = members(events, row);
-        if is_setup_row(told, all.len()) {
+        if is_setup_row(recorded, all.len()) {
             return setup_text(self.alloc, self.made(all));
         }
-        if is_overheard(told, self.is_hushed(event)) {
-            return overheard_text(self.alloc, flight_heard(&told.act), all.len());
+        if is_overheard(recorded, self.is_hushed(event)) {
+            return overheard_text(self.alloc, flight_heard(&recorded.act), all.len());
         }
         let mut text = String::new(self.alloc);
         self.push_reasons(&mut text, all)?;
@@ -327,55 +327,64 @@ impl<'a> ChartRun<'a> {
     }
 
     // The flights of an event that nobody heard.
-    #[tactic(auto, unfolding(crate::specs::Sayings::late))]
-    fn push_late(&self, out: &mut Vec<u8>, told: &TaleEvent) -> Result<(), AllocError>
-        ensures { OnOk result (out.new.items ≡ out.old.items ++ markup_text (sayings.late self.now told.now)) }
+    #[tactic(auto, unfolding(crate::specs::RowSentences::late))]
+    fn push_late(&self, out: &mut Vec<u8>, recorded: &RecordedEvent) -> Result<(), AllocError>
+        ensures { OnOk result (out.new.items ≡ out.old.items ++ markup_text (sayings.late self.now recorded.now)) }
     {
-        push_unheard_lots(out, told.first_flight as usize, made_by(told, self.lots))
+        push_unheard_lots(
+            out,
+            recorded.first_flight as usize,
+            made_by(recorded, self.courses),
+        )
     }
 
-    #[tactic(auto, unfolding(crate::specs::Sayings::item_content))]
+    #[tactic(auto, unfolding(crate::specs::RowSentences::item_content))]
     fn push_item_content(
         &self,
         out: &mut Vec<u8>,
-        told: &TaleEvent,
+        recorded: &RecordedEvent,
         said: &str,
     ) -> Result<(), AllocError>
-        ensures { OnOk result (out.new.items ≡ out.old.items ++ markup_text (sayings.item_content self.now told.now said.now)) }
+        ensures { OnOk result (out.new.items ≡ out.old.items ++ markup_text (sayings.item_content self.now recorded.now said.now)) }
     {
-        push_pill(out, told)?;
+        push_pill(out, recorded)?;
         push_pieces(out, &[text(said)])?;
-        self.push_late(out, told)
+        self.push_late(out, recorded)
     }
 
-    #[tactic(auto, unfolding(crate::specs::Sayings::item))]
-    fn push_item(&self, out: &mut Vec<u8>, told: &TaleEvent, said: &str) -> Result<(), AllocError>
-        ensures { OnOk result (out.new.items ≡ out.old.items ++ markup_text (sayings.item self.now told.now said.now)) }
+    #[tactic(auto, unfolding(crate::specs::RowSentences::item))]
+    fn push_item(
+        &self,
+        out: &mut Vec<u8>,
+        recorded: &RecordedEvent,
+        said: &str,
+    ) -> Result<(), AllocError>
+        ensures { OnOk result (out.new.items ≡ out.old.items ++ markup_text (sayings.item self.now recorded.now said.now)) }
     {
         push_pieces(
             out,
             &[
                 start(Element::Item),
-                given_number(Attribute::Flight, flight_heard(&told.act)),
+                given_number(Attribute::Flight, flight_heard(&recorded.act)),
                 given(Attribute::Title, said),
                 open(),
             ],
         )?;
-        self.push_item_content(out, told, said)?;
+        self.push_item_content(out, recorded, said)?;
         push_item_end(out)
     }
 
-    #[tactic(auto, unfolding(crate::specs::Sayings::saying))]
+    #[tactic(auto, unfolding(crate::specs::RowSentences::saying))]
     fn push_saying(&self, out: &mut Vec<u8>, events: &[usize], row: &Row) -> Result<(), AllocError>
         ensures { OnOk result (out.new.items ≡ out.old.items ++ markup_text (sayings.saying self.now events.now row.now)) }
     {
         let event = number_at(events, row.main);
-        let Some(told) = self.event(event) else {
+        let Some(recorded) = self.event(event) else {
             return Ok(());
         };
         push_note(out, self.note(number_at(events, row.start)))?;
-        let said = self.words_of(events, row, event, &told)?;
-        self.push_item(out, &told, said.as_str())
+        let said = self.words_of(events, row, event, &recorded)?;
+        self.push_item(out, &recorded, said.as_str())
     }
 
     fn push_saying_list(
@@ -393,7 +402,7 @@ impl<'a> ChartRun<'a> {
     }
 
     /// Appends the list of what is said of the rows.
-    #[tactic(auto, unfolding(crate::specs::Sayings::sayings))]
+    #[tactic(auto, unfolding(crate::specs::RowSentences::sayings))]
     pub fn push_sayings(
         &self,
         out: &mut Vec<u8>,

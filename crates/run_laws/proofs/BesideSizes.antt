@@ -6,7 +6,7 @@ use Rattle.std.proofs.lemmas.List.Elements.{All-nil, All-cons, All-head, All-tai
 use Rattle.plc_base.specs.Keeper.{Records}
 use Rattle.plc_base.specs.declared.keeper.BadStore.{BadStore}
 use Rattle.store_tables.specs.SlotTables as slots
-use Rattle.store_tables.proofs.Opening.{opened_reads}
+use Rattle.store_tables.proofs.OpenedTables.{opened_reads}
 use Rattle.neighbour_checks.specs.Laws.{AtMost64}
 use Rattle.neighbour_checks.specs.Neighbours.{Neighbours}
 use Rattle.broadcast_log.specs.Log.{Log, log_at_rest, log_of, opened}

@@ -21,7 +21,7 @@ use Rattle.line_laws.proofs.IssueRuns.{all_of_one}
 use Rattle.run_laws.specs.DatagramFates.{HaveFates}
 use Rattle.run_laws.proofs.FateEvents.{Known}
 use Rattle.run_laws.proofs.FateFlights.{last_push}
-use Rattle.run_laws.proofs.FateFlying.{Ahead, calm_on}
+use Rattle.run_laws.proofs.FateFlown.{Ahead, calm_on}
 use Rattle.run_laws.proofs.FateSends.{sent_now}
 use Rattle.run_laws.proofs.FateSteps.{goes_on}
 

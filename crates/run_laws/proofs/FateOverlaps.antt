@@ -28,7 +28,7 @@ use Rattle.line_progress.specs.Stations.{station_at}
 use Rattle.run_laws.proofs.FateFlights.{there_flight}
 use Rattle.run_laws.specs.OctetPlaces.{Flies, InFlight, InPieces, IsGathered}
 use Rattle.run_laws.proofs.OctetPlaces.{RunsAt, at_one_place, runs_at}
-use Rattle.run_laws.proofs.FateAccepting.{Reads, Taken, reads, taken}
+use Rattle.run_laws.proofs.FateAcceptance.{Reads, Taken, reads, taken}
 use Rattle.run_laws.proofs.FateEvents.{Known, agrees_then, flew, if_some, named_note, unforged}
 use Rattle.run_laws.proofs.FateLists.{among_all, inside}
 

@@ -28,7 +28,7 @@ use Rattle.line_progress.proofs.EventFates.{among_mapped}
 use Rattle.run_laws.proofs.Datagrams.{have_keys, station_there}
 use Rattle.run_laws.specs.DatagramFates.{Fate, Waits}
 use Rattle.run_laws.proofs.FateEvents.{Known, if_some}
-use Rattle.run_laws.proofs.FateFlying.{Ahead, flies_on, sealed_by_in, unit_fits}
+use Rattle.run_laws.proofs.FateFlown.{Ahead, flies_on, sealed_by_in, unit_fits}
 use Rattle.run_laws.proofs.FateLists.{covers_all}
 
 is_below : (i size : ℕ) → i < size → below i size ≡ 1

@@ -14,7 +14,7 @@ use Rattle.mesh_header.specs.declared.unit.Mesh.{Mesh}
 use Rattle.mesh_header.specs.declared.unit.Unit.{Unit as MeshUnit}
 use Rattle.mesh_header.specs.declared.unit.Unit.TheVariants as units
 use Rattle.mesh_header.specs.Pieces.{Placed}
-use Rattle.mesh_header.specs.Reading.{unit_in}
+use Rattle.mesh_header.specs.Reader.{unit_in}
 use Rattle.fragment_buffers.specs.Reassembly.{Reassembly, begun, placed}
 use Rattle.node_rules.specs.declared.heard.Path.TheVariants as paths
 use Rattle.node_rules.specs.Ciphers.{network}
@@ -46,7 +46,7 @@ use Rattle.line_progress.specs.UnitFates.{one_hop_less}
 use Rattle.line_progress.proofs.DeliveryFates.{delivery_fates}
 use Rattle.line_progress.proofs.EventFates.{bodies_kept, pieces_kept}
 use Rattle.line_progress.proofs.FlightsKept.{flights_kept}
-use Rattle.line_progress.proofs.PiecesArriving.{pieces_arrive}
+use Rattle.line_progress.proofs.PieceArrivals.{pieces_arrive}
 use Rattle.line_laws.proofs.Worlds.{at_place}
 use Rattle.line_progress.proofs.BodyFates.{among_back}
 use Rattle.line_progress.proofs.PieceFates.{among_front}
@@ -54,10 +54,10 @@ use Rattle.run_laws.proofs.OctetPlaces.{numbered, runs_at}
 use Rattle.run_laws.proofs.Datagrams.{comes_so, have_keys, station_there, undiscovered}
 use Rattle.run_laws.specs.DatagramFates.{AtDelivery, Ends, Fate, Flies, Gathered, HandedUp, IsGathered, IsHandedUp, IsInFlight, IsWaiting, Lost}
 use Rattle.run_laws.specs.DatagramFates.{Over, Waits, WhileGathered, WhileWaiting}
-use Rattle.run_laws.proofs.FateAccepting.{Reads, Taken, accepts_or_not, reads, taken}
+use Rattle.run_laws.proofs.FateAcceptance.{Reads, Taken, accepts_or_not, reads, taken}
 use Rattle.run_laws.proofs.FateEvents.{Known, agrees_now, flew, handed_note, if_some, named_note, unforged}
 use Rattle.run_laws.proofs.FateFlights.{still_unaccepted}
-use Rattle.run_laws.proofs.FateFlying.{Ahead, all_fly, flies_on}
+use Rattle.run_laws.proofs.FateFlown.{Ahead, all_fly, flies_on}
 use Rattle.run_laws.proofs.FateLists.{among_all}
 use Rattle.run_laws.proofs.FateOverlaps.{no_overlap}
 

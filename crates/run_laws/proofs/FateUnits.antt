@@ -3,10 +3,10 @@ use Rattle.std.proofs.Common.{◌≡◌, ℕ, List, [], ◌∷◌, ◌++◌, get
 use Rattle.std.specs.Prelude.{take, drop}
 use Rattle.std.specs.Option.{option_and_then}
 use Rattle.mac_frames.specs.Grammar.{header, header_then}
-use Rattle.mac_frames.specs.Sealing.{nonce_of}
+use Rattle.mac_frames.specs.SealedFrames.{nonce_of}
 use Rattle.aes_modes.specs.Ccm.{ccm_text, ccm_tag}
 use Rattle.mesh_header.specs.Grammar.{IsUnit, spelling}
-use Rattle.mesh_header.specs.Reading.{unit_in}
+use Rattle.mesh_header.specs.Reader.{unit_in}
 use Rattle.mesh_header.proofs.Readings.{unit_read}
 use Rattle.node_rules.specs.Ciphers.{network}
 use Rattle.node_rules.specs.Frames.{Arrived, SealedUnit, Sealed, arrived, arrived_with, head_of, spelled}

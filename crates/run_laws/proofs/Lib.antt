@@ -1,10 +1,10 @@
 mod BesideSizes
 mod Choices
 mod DatagramFates
-mod FateAccepting
+mod FateAcceptance
 mod FateEvents
 mod FateFlights
-mod FateFlying
+mod FateFlown
 mod FateLists
 mod FateOverlaps
 mod FateSends

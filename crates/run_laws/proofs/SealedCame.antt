@@ -4,7 +4,7 @@ use Rattle.plc_base.specs.declared.key.Key.{Key}
 use Rattle.plc_base.specs.Grant.{Granted}
 use Rattle.group_keys.specs.KeyRing as ring
 use Rattle.node_rules.specs.Accepted.{Accepted}
-use Rattle.node_rules.specs.Accepting.{Accepting, accept, marking}
+use Rattle.node_rules.specs.Acceptance.{Accepting, accept, marking}
 use Rattle.node_rules.specs.declared.heard.Path.TheVariants as paths
 use Rattle.node_rules.specs.declared.refusal.FrameRefusal.{FrameRefusal}
 use Rattle.node_rules.specs.declared.refusal.FrameRefusal.TheVariants as frames
@@ -15,7 +15,7 @@ use Rattle.node_rules.specs.NodeSteps.{acts, of_station}
 use Rattle.node_rules.specs.Plans.{Plan, resting}
 use Rattle.line_rules.specs.Forgery.{accepting}
 use Rattle.line_laws.proofs.StoreMarks.{Accepts, IsPlain, Marked, Plain, Turned, accept_is}
-use Rattle.line_progress.proofs.Acting.{Acted, Failed, Whole, acts_either}
+use Rattle.line_progress.proofs.WholePlans.{Acted, Failed, Whole, acts_either}
 
 -- # In the plan
 

@@ -7,11 +7,11 @@ use Rattle.std.specs.declared.cmp.Ordering.TheVariants.{Less, Equal, Greater}
 use Rattle.std.specs.Ordering.{is_eq, match_ordering, nat_cmp, ordering_then}
 use Rattle.std.specs.BTreeMap.{insert_entry, is_at}
 use Rattle.std.specs.Map.{lookup}
-use Rattle.line_tale.specs.declared.act.Act.{Act}
-use Rattle.line_tale.specs.declared.act.Act.TheVariants as acts
-use Rattle.line_tale.specs.declared.told.TaleEvent.{TaleEvent}
-use Rattle.line_tale.specs.declared.told.TaleFlight.{TaleFlight}
-use Rattle.line_tale.specs.Tales.{numbered}
+use Rattle.line_record.specs.declared.act.Act.{Act}
+use Rattle.line_record.specs.declared.act.Act.TheVariants as acts
+use Rattle.line_record.specs.declared.recorded.RecordedEvent.{RecordedEvent}
+use Rattle.line_record.specs.declared.recorded.RecordedFlight.{RecordedFlight}
+use Rattle.line_record.specs.RunRecords.{numbered}
 use Rattle.run_maps.specs.declared.links.Link.{Link}
 use Rattle.run_maps.specs.Links.{frame_added, heard_by, link_at, links_from, links_of, pair_cmp, route_added, with_act, with_frame, with_route}
 use Rattle.run_maps.specs.Laws.{LinksHold, are, if_frame, if_route, link_after, link_over}
@@ -79,7 +79,7 @@ added f q k links = inserted q k (f (found k links)) links ∙ adjusted q k (pai
 
 -- # Events
 
-by_flight : (o : Option TaleFlight) (node cost : ℕ) (q : ℕ × ℕ) (links : List ((ℕ × ℕ) × Link))
+by_flight : (o : Option RecordedFlight) (node cost : ℕ) (q : ℕ × ℕ) (links : List ((ℕ × ℕ) × Link))
     → found q (heard_by o node cost links) ≡ if_frame o q node cost (found q links)
 unfolding frame_added link_at
 by_flight None node cost q links = refl
@@ -89,7 +89,7 @@ by_route : (a b : ℕ) (q : ℕ × ℕ) (links : List ((ℕ × ℕ) × Link)) �
 unfolding route_added link_at
 by_route a b q links = added with_route q (a, b) links
 
-by_act : (act : Act) (flights : List TaleFlight) (q : ℕ × ℕ) (links : List ((ℕ × ℕ) × Link))
+by_act : (act : Act) (flights : List RecordedFlight) (q : ℕ × ℕ) (links : List ((ℕ × ℕ) × Link))
     → found q (with_act act flights links) ≡ link_after act flights q (found q links)
 by_act (acts.Deliver flight node cost) flights q links = by_flight (numbered flights flight) node cost q links
 by_act (acts.Near a b) flights q links = by_route b a q (route_added a b links) ∙ ap (if_route q (b, a)) (by_route a b q links)
@@ -99,7 +99,7 @@ by_act (acts.Depot node) flights q links = refl
 by_act (acts.Counter node) flights q links = refl
 by_act (acts.Number node) flights q links = refl
 by_act (acts.Allow node) flights q links = refl
-by_act (acts.Rand node) flights q links = refl
+by_act (acts.RandomOctets node) flights q links = refl
 by_act (acts.Join node agent) flights q links = refl
 by_act (acts.Leave node) flights q links = refl
 by_act (acts.Send from to octets) flights q links = refl
@@ -120,7 +120,7 @@ by_act (acts.Scan node) flights q links = refl
 by_act (acts.Choose node k) flights q links = refl
 by_act (acts.Path from to) flights q links = refl
 
-by_events : (flights : List TaleFlight) (events : List TaleEvent) (q : ℕ × ℕ) (links : List ((ℕ × ℕ) × Link))
+by_events : (flights : List RecordedFlight) (events : List RecordedEvent) (q : ℕ × ℕ) (links : List ((ℕ × ℕ) × Link))
     → found q (links_from flights events links) ≡ link_over flights events q (found q links)
 by_events flights [] q links = refl
 by_events flights (e ∷ events) q links =

@@ -4,11 +4,11 @@ use Rattle.std.specs.declared.cmp.Ordering.{Ordering}
 use Rattle.std.specs.Ordering.{nat_cmp, ordering_then}
 use Rattle.std.specs.BTreeMap.{insert_entry, is_at}
 use Rattle.std.specs.Map.{lookup}
-use Rattle.line_tale.specs.declared.act.Act.{Act}
-use Rattle.line_tale.specs.declared.act.Act.TheVariants as acts
-use Rattle.line_tale.specs.declared.told.TaleEvent.{TaleEvent}
-use Rattle.line_tale.specs.declared.told.TaleFlight.{TaleFlight}
-use Rattle.line_tale.specs.Tales.{numbered}
+use Rattle.line_record.specs.declared.act.Act.{Act}
+use Rattle.line_record.specs.declared.act.Act.TheVariants as acts
+use Rattle.line_record.specs.declared.recorded.RecordedEvent.{RecordedEvent}
+use Rattle.line_record.specs.declared.recorded.RecordedFlight.{RecordedFlight}
+use Rattle.line_record.specs.RunRecords.{numbered}
 use Rattle.run_maps.specs.declared.links.Heard.{Heard}
 use Rattle.run_maps.specs.declared.links.Link.{Link}
 
@@ -44,21 +44,21 @@ route_added from to links = insert_entry pair_cmp links (from, to) (with_route (
 
 -- # What joins two nodes: a frame that one sent and the other one heard, and a route that was given, which joins them both ways
 
-abbrev pub heard_by : Option TaleFlight → ℕ → ℕ → List ((ℕ × ℕ) × Link) → List ((ℕ × ℕ) × Link)
+abbrev pub heard_by : Option RecordedFlight → ℕ → ℕ → List ((ℕ × ℕ) × Link) → List ((ℕ × ℕ) × Link)
 heard_by None node cost links = links
 heard_by (Some flight) node cost links = frame_added flight.from node cost links
 
-abbrev pub with_act : Act → List TaleFlight → List ((ℕ × ℕ) × Link) → List ((ℕ × ℕ) × Link)
+abbrev pub with_act : Act → List RecordedFlight → List ((ℕ × ℕ) × Link) → List ((ℕ × ℕ) × Link)
 with_act (acts.Deliver flight node cost) flights links = heard_by (numbered flights flight) node cost links
 with_act (acts.Near a b) flights links = route_added b a (route_added a b links)
 with_act _ flights links = links
 
-abbrev pub links_from : List TaleFlight → List TaleEvent → List ((ℕ × ℕ) × Link) → List ((ℕ × ℕ) × Link)
+abbrev pub links_from : List RecordedFlight → List RecordedEvent → List ((ℕ × ℕ) × Link) → List ((ℕ × ℕ) × Link)
 links_from flights [] links = links
 links_from flights (e ∷ events) links = links_from flights events (with_act e.act flights links)
 
 -- the links of a run
-unfoldable pub links_of : List TaleEvent → List TaleFlight → List ((ℕ × ℕ) × Link)
+unfoldable pub links_of : List RecordedEvent → List RecordedFlight → List ((ℕ × ℕ) × Link)
 links_of events flights = links_from flights events []
 
 -- # As a list

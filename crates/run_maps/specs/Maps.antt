@@ -7,8 +7,8 @@ use Rattle.markup.specs.declared.names.Attribute.TheVariants as A
 use Rattle.markup_parts.specs.Markups.{Markup, Nothing, Words, Leaf, Inside, Both, with_text, with_number}
 use Rattle.sentence_parts.specs.declared.part.Part.TheVariants as part
 use Rattle.sentence_parts.specs.Parts.{parts_text}
-use Rattle.line_tale.specs.declared.told.TaleEvent.{TaleEvent}
-use Rattle.line_tale.specs.declared.told.TaleFlight.{TaleFlight}
+use Rattle.line_record.specs.declared.recorded.RecordedEvent.{RecordedEvent}
+use Rattle.line_record.specs.declared.recorded.RecordedFlight.{RecordedFlight}
 use Rattle.node_pasts.specs.declared.mode.Mode.{Mode}
 use Rattle.node_pasts.specs.declared.mode.Mode.TheVariants as modes
 use Rattle.node_pasts.specs.declared.past.Change.{Change}
@@ -71,7 +71,7 @@ node_by (Some spot) l mode node = node_drawing l mode node spot
 unfoldable pub node_at : Layout → List NodePast → ℕ → Markup
 node_at l pasts node = node_by (spot l node) l (mode_at_end (changes_at pasts node)) node
 
--- so many nodes
+-- this many nodes
 abbrev pub nodes : Layout → List NodePast → ℕ → Markup
 nodes l pasts zero = Nothing
 nodes l pasts (suc node) = Both (nodes l pasts node) (node_at l pasts node)
@@ -114,5 +114,5 @@ unfoldable pub map_by : List ((ℕ × ℕ) × Link) → List NodePast → List �
 map_by links pasts homes = map_over links (heard_list links) (layout_by (heard_list links) (nodes_of pasts)) pasts homes
 
 -- the map of a run, by the node of each short address
-unfoldable pub run_map : List TaleEvent → List TaleFlight → List NodePast → List ℕ → Markup
+unfoldable pub run_map : List RecordedEvent → List RecordedFlight → List NodePast → List ℕ → Markup
 run_map events flights pasts homes = map_by (links_of events flights) pasts homes

@@ -75,7 +75,7 @@ route_if (Some hop) l node = route_to l node hop
 unfoldable pub route_of : Layout → List NodePast → List ℕ → ℕ → Markup
 route_of l pasts homes node = route_if (hop_of pasts homes node) l node
 
--- those of so many nodes
+-- those of this many nodes
 abbrev pub routes_from : Layout → List NodePast → List ℕ → ℕ → Markup
 routes_from l pasts homes zero = Nothing
 routes_from l pasts homes (suc node) = Both (routes_from l pasts homes node) (route_of l pasts homes node)

@@ -23,7 +23,7 @@ abbrev pub has_hops : Option Found → ℕ → Bool
 has_hops None hops = false
 has_hops (Some found) hops = found.hops == hops
 
--- whether a node was found, so many hops away
+-- whether a node was found, this many hops away
 abbrev pub is_so_far : Option (Option Found) → ℕ → Bool
 is_so_far None hops = false
 is_so_far (Some found) hops = has_hops found hops
@@ -32,13 +32,13 @@ abbrev pub with_found : ℕ → ℕ → ℕ → Search → Search
 with_found node hops parent s =
     record { found = slice_set s.found node (Some (record { hops = hops; parent = parent })); order = s.order ++ (node ∷ []); most = hops }
 
--- a node that was not found before is so many hops away
+-- a node that was not found before is this many hops away
 unfoldable pub find : ℕ → ℕ → ℕ → Search → Search
 find node hops parent s = if is_unknown (slice_get s.found node) then with_found node hops parent s else s
 
 -- # Rounds
 
--- a node is one hop further than a node beside it that is so many hops away; a run has at most 1,000 nodes
+-- a node is one hop further than a node beside it that is this many hops away; a run has at most 1,000 nodes
 unfoldable pub reach : ℕ → ℕ → ℕ → Search → Search
 reach hops from to s = if is_so_far (slice_get s.found from) hops then find to (min hops 1000 + 1) from s else s
 
@@ -46,7 +46,7 @@ reach hops from to s = if is_so_far (slice_get s.found from) hops then find to (
 unfoldable pub reach_both : ℕ → Heard → Search → Search
 reach_both hops heard s = reach hops heard.to heard.from (reach hops heard.from heard.to s)
 
--- over each link, from the nodes that are so many hops away
+-- over each link, from the nodes that are this many hops away
 abbrev pub spread : ℕ → List Heard → Search → Search
 spread hops [] s = s
 spread hops (heard ∷ rest) s = spread hops rest (reach_both hops heard s)
@@ -55,7 +55,7 @@ spread hops (heard ∷ rest) s = spread hops rest (reach_both hops heard s)
 unfoldable pub round : List Heard → ℕ → Search → Search
 round heards hops s = if s.most == hops then spread hops heards s else s
 
--- so many rounds
+-- this many rounds
 abbrev pub rounds : List Heard → ℕ → Search → Search
 rounds heards zero s = s
 rounds heards (suc hops) s = round heards hops (rounds heards hops s)
@@ -65,7 +65,7 @@ rounds heards (suc hops) s = round heards hops (rounds heards hops s)
 abbrev pub nobody : ℕ → Search
 nobody nodes = record { found = replicate nodes None; order = []; most = 0 }
 
--- of so many nodes those that no link leads to are so many hops away, beside the coordinator
+-- of this many nodes those that no link leads to are this many hops away, beside the coordinator
 abbrev pub strays : ℕ → ℕ → Search → Search
 strays hops zero s = s
 strays hops (suc node) s = find node hops 0 (strays hops node s)
@@ -77,6 +77,6 @@ linked nodes heards = rounds heards nodes (find 0 0 0 (nobody nodes))
 unfoldable pub with_strays : ℕ → Search → Search
 with_strays nodes s = strays (min s.most 1000 + 1) nodes s
 
--- the search over so many nodes
+-- the search over this many nodes
 unfoldable pub search_of : ℕ → List Heard → Search
 search_of nodes heards = with_strays nodes (linked nodes heards)

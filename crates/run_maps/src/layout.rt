@@ -83,7 +83,7 @@ fn grid_layout(alloc: Global, nodes: u32, search: Search) -> Result<Layout, Allo
     })
 }
 
-/// Where so many nodes are that were searched. It fails only where memory runs out.
+/// Where this many nodes are that were searched. It fails only where memory runs out.
 #[tactic(auto, unfolding(crate::specs::Layouts::layout_of))]
 pub fn layout_of(alloc: Global, nodes: u32, search: Search) -> Result<Layout, AllocError>
     ensures { IfOk result (λ l. l ≡ layouts.layout_of nodes search) }

@@ -1,7 +1,7 @@
 //! A map of a run: who hears whom, and each node's next hop to the coordinator, as a drawing in SVG.
 //!
 //! ```text
-//! push_map(&mut out, alloc, &tale, &pasts, &homes)?;
+//! push_map(&mut out, alloc, &record, &pasts, &homes)?;
 //! ```
 //!
 //! A line joins two nodes where one of them heard a frame of the other one, or where the script gave them the route to each other. It is the

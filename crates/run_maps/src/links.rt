@@ -2,7 +2,7 @@
 ghost use Rattle.std.specs.Prelude.{◌≡◌, [], IfOk, OnOk};
 ghost use Rattle.run_maps.specs.Links as spec_links;
 
-use line_tale::{Act, Tale, TaleEvent, TaleFlight};
+use line_record::{Act, RecordedEvent, RecordedFlight, RunRecord};
 use std::alloc::{AllocError, Global};
 use std::collections::BTreeMap;
 use std::marker::Model;
@@ -127,7 +127,12 @@ impl Links {
     }
 
     // A frame came to a node, from the node that sent the flight, if there is such a flight.
-    fn hear(&mut self, flight: Option<TaleFlight>, node: u32, cost: u8) -> Result<(), AllocError>
+    fn hear(
+        &mut self,
+        flight: Option<RecordedFlight>,
+        node: u32,
+        cost: u8,
+    ) -> Result<(), AllocError>
         ensures { OnOk result (self.new ≡ spec_links.heard_by flight node cost self.old) }
     {
         match flight {
@@ -144,12 +149,12 @@ impl Links {
     }
 
     // What an event joins.
-    fn add(&mut self, tale: &Tale, told: &TaleEvent) -> Result<(), AllocError>
-        ensures { OnOk result (self.new ≡ spec_links.with_act told.now.act tale.now.flights.items self.old) }
+    fn add(&mut self, run_record: &RunRecord, recorded: &RecordedEvent) -> Result<(), AllocError>
+        ensures { OnOk result (self.new ≡ spec_links.with_act recorded.now.act run_record.now.flights.items self.old) }
     {
-        match told.act {
+        match recorded.act {
             Act::Deliver { flight, node, cost } => {
-                self.hear(tale.flight(flight as usize).copied(), node, cost)
+                self.hear(run_record.flight(flight as usize).copied(), node, cost)
             }
             Act::Near { a, b } => self.join(a, b),
             _ => Ok(()),
@@ -157,11 +162,15 @@ impl Links {
     }
 
     // What the events join.
-    fn add_all(&mut self, tale: &Tale, events: &[TaleEvent]) -> Result<(), AllocError>
-        ensures { OnOk result (self.new ≡ spec_links.links_from tale.now.flights.items events.now self.old) }
+    fn add_all(
+        &mut self,
+        run_record: &RunRecord,
+        events: &[RecordedEvent],
+    ) -> Result<(), AllocError>
+        ensures { OnOk result (self.new ≡ spec_links.links_from run_record.now.flights.items events.now self.old) }
     {
-        for told in events {
-            self.add(tale, told)?;
+        for recorded in events {
+            self.add(run_record, recorded)?;
         }
         Ok(())
     }
@@ -180,10 +189,10 @@ impl Links {
 
 /// The links of a run. It fails only where memory runs out.
 #[tactic(auto, unfolding(crate::specs::Links::links_of))]
-pub fn links_of(alloc: Global, tale: &Tale) -> Result<Links, AllocError>
-    ensures { IfOk result (λ links. links ≡ spec_links.links_of tale.now.events.items tale.now.flights.items) }
+pub fn links_of(alloc: Global, run_record: &RunRecord) -> Result<Links, AllocError>
+    ensures { IfOk result (λ links. links ≡ spec_links.links_of run_record.now.events.items run_record.now.flights.items) }
 {
     let mut links = Links::new(alloc);
-    links.add_all(tale, tale.events.as_slice())?;
+    links.add_all(run_record, run_record.events.as_slice())?;
     Ok(links)
 }

@@ -9,7 +9,7 @@ use crate::links::{Heard, Links, links_of};
 use crate::route::push_routes;
 use crate::search::search_of;
 use crate::tie::{PlacedTie, has_costs, placed_ties, push_costs_if, push_lines};
-use line_tale::Tale;
+use line_record::RunRecord;
 use markup::{Attribute, Element};
 use markup_parts::{end, given, given_number, open, push_pieces, start};
 use node_pasts::{Change, Mode, Pasts};
@@ -78,7 +78,7 @@ fn push_node(out: &mut Vec<u8>, layout: &Layout, pasts: &Pasts, node: u32) -> Re
     }
 }
 
-// So many nodes.
+// This many nodes.
 fn push_nodes(
     out: &mut Vec<u8>,
     layout: &Layout,
@@ -234,13 +234,13 @@ fn push_map_by(
 pub fn push_map(
     out: &mut Vec<u8>,
     alloc: Global,
-    tale: &Tale,
+    run_record: &RunRecord,
     pasts: &Pasts,
     homes: &[u32],
 ) -> Result<(), AllocError>
     ensures { OnOk result (out.new.items
-        ≡ out.old.items ++ markup_text (maps.run_map tale.now.events.items tale.now.flights.items pasts.now homes.now)) }
+        ≡ out.old.items ++ markup_text (maps.run_map run_record.now.events.items run_record.now.flights.items pasts.now homes.now)) }
 {
-    let links = links_of(alloc, tale)?;
+    let links = links_of(alloc, run_record)?;
     push_map_by(out, alloc, &links, pasts, homes)
 }

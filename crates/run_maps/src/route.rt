@@ -182,7 +182,7 @@ fn push_route_of(
     }
 }
 
-// Those of so many nodes.
+// Those of this many nodes.
 fn push_routes_from(
     out: &mut Vec<u8>,
     alloc: Global,

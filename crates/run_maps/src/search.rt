@@ -53,7 +53,7 @@ fn has_hops(found: Option<Found>, hops: usize) -> bool
     }
 }
 
-// Whether a node was found, so many hops away.
+// Whether a node was found, this many hops away.
 fn is_so_far(found: Option<Option<Found>>, hops: usize) -> bool
     ensures { result ≡ spec_searches.is_so_far found hops }
 {
@@ -64,7 +64,7 @@ fn is_so_far(found: Option<Option<Found>>, hops: usize) -> bool
 }
 
 impl Search {
-    // No node of so many was found.
+    // No node of this many was found.
     #[tactic(auto, unfolding(crate::specs::Searches::nobody))]
     fn new(alloc: Global, nodes: usize) -> Result<Search, AllocError>
         ensures { IfOk result (λ search. search ≡ spec_searches.nobody nodes) }
@@ -78,7 +78,7 @@ impl Search {
         })
     }
 
-    // A node that was not found before is so many hops away.
+    // A node that was not found before is this many hops away.
     #[tactic(auto, unfolding(crate::specs::Searches::find))]
     fn find(&mut self, node: u32, hops: usize, parent: u32) -> Result<(), AllocError>
         ensures { OnOk result (self.new ≡ spec_searches.find node hops parent self.old) }
@@ -93,7 +93,7 @@ impl Search {
         Ok(())
     }
 
-    // A node is one hop further than a node beside it that is so many hops away. A run has at most 1,000 nodes.
+    // A node is one hop further than a node beside it that is this many hops away. A run has at most 1,000 nodes.
     #[tactic(auto, unfolding(crate::specs::Searches::reach))]
     fn reach(&mut self, hops: usize, from: u32, to: u32) -> Result<(), AllocError>
         ensures { OnOk result (self.new ≡ spec_searches.reach hops from to self.old) }
@@ -113,7 +113,7 @@ impl Search {
         self.reach(hops, heard.to, heard.from)
     }
 
-    // Over each link, from the nodes that are so many hops away.
+    // Over each link, from the nodes that are this many hops away.
     fn spread(&mut self, hops: usize, heards: &[Heard]) -> Result<(), AllocError>
         ensures { OnOk result (self.new ≡ spec_searches.spread hops heards.now self.old) }
     {
@@ -143,7 +143,7 @@ impl Search {
         Ok(())
     }
 
-    // Of so many nodes those that no link leads to.
+    // Of this many nodes those that no link leads to.
     fn add_strays(&mut self, hops: usize, nodes: u32) -> Result<(), AllocError>
         ensures { OnOk result (self.new ≡ spec_searches.strays hops nodes self.old) }
     {
@@ -172,7 +172,7 @@ fn linked(alloc: Global, nodes: u32, heards: &[Heard]) -> Result<Search, AllocEr
     Ok(search)
 }
 
-/// The search over so many nodes. Those that no link leads to are one hop further than all others.
+/// The search over this many nodes. Those that no link leads to are one hop further than all others.
 ///
 /// It fails only where memory runs out.
 #[tactic(auto, unfolding(crate::specs::Searches::search_of))]

@@ -28,7 +28,7 @@ pub fn put(list: &mut Vec<usize>, node: u32, number: usize)
     list[at] = number;
 }
 
-// A list of numbers, one for each of so many nodes, all 0.
+// A list of numbers, one for each of this many nodes, all 0.
 pub fn zeros(alloc: Global, nodes: usize) -> Result<Vec<usize>, AllocError>
     ensures { IfOk result (λ list. list.items ≡ layouts.zeros nodes) }
 {

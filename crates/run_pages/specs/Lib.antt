@@ -1,5 +1,5 @@
-pub mod Remarking
-pub mod Counting
+pub mod Remarks
+pub mod Counts
 pub mod NodeCounts
 pub mod NodeTables
 pub mod Reasons

@@ -9,15 +9,15 @@ use Rattle.markup.specs.declared.names.Element.TheVariants as E
 use Rattle.markup.specs.declared.names.Attribute.TheVariants as A
 use Rattle.markup_parts.specs.Markups.{Markup, Nothing, Words, Inside, Both, with_text}
 use Rattle.page_parts.specs.Parts.{heading}
-use Rattle.line_tale.specs.declared.kind.StoryKind.TheVariants as kinds
-use Rattle.line_tale.specs.declared.story.Story.{Story}
-use Rattle.line_tale.specs.Verdicts.{is_good}
+use Rattle.line_record.specs.declared.kind.StoryKind.TheVariants as kinds
+use Rattle.line_record.specs.declared.story.Story.{Story}
+use Rattle.line_record.specs.Verdicts.{is_good}
 use Rattle.node_pasts.specs.declared.mode.Mode.{Mode}
 use Rattle.node_pasts.specs.declared.mode.Mode.TheVariants as modes
 use Rattle.node_pasts.specs.declared.past.Change.{Change}
 use Rattle.node_pasts.specs.Pasts.{NodePast, changes_at}
 use Rattle.run_charts.specs.Runs.{Run}
-use Rattle.run_pages.specs.Counting.{is_kind, is_yes}
+use Rattle.run_pages.specs.Counts.{is_kind, is_yes}
 use Rattle.run_pages.specs.NodeCounts.{addresses_added, datagram_added, events_added, no_count}
 use Rattle.run_pages.specs.declared.node_counts.NodeCount.{NodeCount}
 use Rattle.story_accounts.specs.Accounts.{RunAccount, verdict_at}

@@ -4,23 +4,23 @@ use Rattle.std.specs.Prelude.{codes, length, position, slice_get, Option, None, 
 use Rattle.markup.specs.declared.names.Element.TheVariants as E
 use Rattle.markup.specs.declared.names.Attribute.TheVariants as A
 use Rattle.markup_parts.specs.Markups.{Markup, Nothing, Words, Inside, Both, markup_text, with_text, with_number}
-use Rattle.markup.specs.Nesting.{IsContent}
+use Rattle.markup.specs.HtmlReader.{IsContent}
 use Rattle.page_frame.specs.Frames.{doctype, page_text}
 use Rattle.page_parts.specs.Parts.{band, event_numbers, fault_tile, heading, keys, map_keys, name, not_drawn, share, span, tile, totals}
-use Rattle.line_tale.specs.declared.kind.StoryKind.{StoryKind}
-use Rattle.line_tale.specs.declared.kind.StoryKind.TheVariants as kinds
-use Rattle.line_tale.specs.declared.lot.Lot.{Lot}
-use Rattle.line_tale.specs.declared.story.Story.{Story}
-use Rattle.line_tale.specs.declared.told.TaleEvent.{TaleEvent}
-use Rattle.line_tale.specs.Verdicts.{is_good}
+use Rattle.line_record.specs.declared.kind.StoryKind.{StoryKind}
+use Rattle.line_record.specs.declared.kind.StoryKind.TheVariants as kinds
+use Rattle.line_record.specs.declared.course.Course.{Course}
+use Rattle.line_record.specs.declared.story.Story.{Story}
+use Rattle.line_record.specs.declared.recorded.RecordedEvent.{RecordedEvent}
+use Rattle.line_record.specs.Verdicts.{is_good}
 use Rattle.run_charts.specs.Charts.{chart}
 use Rattle.run_charts.specs.Lanes.{lanes}
 use Rattle.run_maps.specs.Maps.{run_map}
-use Rattle.line_tale.specs.Kinds.{is_refused}
+use Rattle.line_record.specs.Kinds.{is_refused}
 use Rattle.run_charts.specs.Runs.{Run, is_missed}
 use Rattle.sentence_parts.specs.declared.part.Part.TheVariants as part
 use Rattle.sentence_parts.specs.Parts.{parts_text}
-use Rattle.run_pages.specs.Counting.{count_if, is_kind, is_yes}
+use Rattle.run_pages.specs.Counts.{count_if, is_kind, is_yes}
 use Rattle.run_pages.specs.NodeTables.{nodes_table}
 use Rattle.run_pages.specs.Reasons.{reasons}
 use Rattle.story_accounts.specs.Accounts.{RunAccount, verdict_at, why}
@@ -76,21 +76,21 @@ is_no (Some good) = not good
 
 -- # Counts
 
-abbrev pub missed_from : List Lot → ℕ → ℕ
+abbrev pub missed_from : List Course → ℕ → ℕ
 missed_from [] n = n
-missed_from (lot ∷ lots) n = missed_from lots (count_if (is_missed lot.fate) n)
+missed_from (course ∷ courses) n = missed_from courses (count_if (is_missed course.fate) n)
 
 abbrev pub missed : Sheet → ℕ
-missed s = missed_from s.account.lots 0
+missed s = missed_from s.account.courses 0
 
-abbrev pub refusals_from : List TaleEvent → ℕ → ℕ
+abbrev pub refusals_from : List RecordedEvent → ℕ → ℕ
 refusals_from [] n = n
 refusals_from (e ∷ es) n = refusals_from es (count_if (is_refused e.answer) n)
 
 abbrev pub refusals : Sheet → ℕ
 refusals s = refusals_from s.account.events 0
 
-abbrev pub seconds_by : Option TaleEvent → ℕ
+abbrev pub seconds_by : Option RecordedEvent → ℕ
 seconds_by None = 0
 seconds_by (Some e) = e.clock
 
@@ -105,7 +105,7 @@ top s = Both (name (or_words s.title (codes "A run"))) (totals (length s.account
 abbrev pub bad_band : Sheet → Markup
 bad_band s = if length s.bad == 0 then Nothing else band s.bad
 
-abbrev pub is_forged : TaleEvent → Bool
+abbrev pub is_forged : RecordedEvent → Bool
 is_forged e = e.forged
 
 abbrev pub number_at : Option ℕ → Option ℕ
@@ -113,7 +113,7 @@ number_at None = None
 number_at (Some place) = Some (place + 1)
 
 -- the number of the first event that is forged
-abbrev pub first_forged : List TaleEvent → Option ℕ
+abbrev pub first_forged : List RecordedEvent → Option ℕ
 first_forged events = number_at (position is_forged events)
 
 abbrev pub forged_text : RunAccount → ℕ → List ℕ
@@ -190,7 +190,7 @@ good_of s kind = good_from s.account kind 0 s.account.stories 0
 abbrev pub has_failed : Sheet → ℕ → Bool
 has_failed s number = is_no (is_good (verdict_at s.account number))
 
--- among so many stories
+-- among this many stories
 abbrev pub failed_among : Sheet → ℕ → ℕ
 failed_among s zero = 0
 failed_among s (suc number) = count_if (has_failed s (number + 1)) (failed_among s number)
@@ -218,7 +218,7 @@ abbrev pub left_after : Bool → ℕ → ℕ
 left_after true left = left - 1
 left_after false left = left
 
--- those of a kind that did not fail, from this place on, with so many charts
+-- those of a kind that did not fail, from this place on, with this many charts
 abbrev pub others_from : Sheet → Run → StoryKind → ℕ → ℕ → List Story → Markup
 others_from s run kind left place [] = Nothing
 others_from s run kind left place (it ∷ stories) =
@@ -229,7 +229,7 @@ abbrev pub stories_of : Sheet → Run → StoryKind → Markup
 stories_of s run kind =
     if others_of s kind == 0 then Nothing else Both (heading (kind_title kind)) (others_from s run kind 100 0 s.account.stories)
 
--- those of all kinds that failed, from this place on, with so many charts
+-- those of all kinds that failed, from this place on, with this many charts
 abbrev pub failed_from : Sheet → Run → ℕ → ℕ → List Story → Markup
 failed_from s run left place [] = Nothing
 failed_from s run left place (it ∷ stories) =

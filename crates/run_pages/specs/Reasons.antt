@@ -34,7 +34,7 @@ links a (number ∷ numbers) = Both (link a number) (links a numbers)
 
 -- # A reason
 
--- so many of its stories have a link
+-- this many of its stories have a link
 abbrev pub most : ℕ
 most = 8
 

@@ -1,12 +1,12 @@
 //! What is counted, and of which kind.
 ghost use Rattle.std.specs.Prelude.{◌≡◌};
-ghost use Rattle.run_pages.specs.Counting as counting;
+ghost use Rattle.run_pages.specs.Counts as counts;
 
-use line_tale::StoryKind;
+use line_record::StoryKind;
 
 /// One more, if something holds.
 pub fn count_if(holds: bool, count: usize) -> usize
-    ensures { result ≡ counting.count_if holds count }
+    ensures { result ≡ counts.count_if holds count }
 {
     if holds {
         return count.saturating_add(1);
@@ -16,7 +16,7 @@ pub fn count_if(holds: bool, count: usize) -> usize
 
 /// Whether a story reached its end.
 pub fn is_yes(good: Option<bool>) -> bool
-    ensures { result ≡ counting.is_yes good }
+    ensures { result ≡ counts.is_yes good }
 {
     match good {
         Some(yes) => yes,
@@ -26,7 +26,7 @@ pub fn is_yes(good: Option<bool>) -> bool
 
 /// Whether two are the same.
 pub fn is_kind(kind: StoryKind, other: StoryKind) -> bool
-    ensures { result ≡ counting.is_kind kind other }
+    ensures { result ≡ counts.is_kind kind other }
 {
     match kind {
         StoryKind::Setup => other == StoryKind::Setup,

@@ -6,7 +6,7 @@
 //! sheet.push_page(&mut out, &chart_run)?;
 //! ```
 //!
-//! `specs/Pages.antt` says what a page has, in its order, `specs/Remarking.antt` what the comments say, and `specs/Laws.antt` what holds of a page.
+//! `specs/Pages.antt` says what a page has, in its order, `specs/Remarks.antt` what the comments say, and `specs/Laws.antt` what holds of a page.
 #![tactic(auto)]
 
 mod counting;

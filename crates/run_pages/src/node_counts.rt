@@ -3,7 +3,7 @@ ghost use Rattle.std.specs.Prelude.{◌≡◌};
 ghost use Rattle.run_pages.specs.NodeCounts as node_counts;
 
 use crate::counting::count_if;
-use line_tale::{TaleEvent, actor_of, is_refused};
+use line_record::{RecordedEvent, actor_of, is_refused};
 
 /// What is counted of a node.
 #[derive(Clone, Copy)]
@@ -45,15 +45,15 @@ fn with_address(address: usize, old: &NodeCount) -> NodeCount
     }
 }
 
-fn with_event(told: &TaleEvent, old: &NodeCount) -> NodeCount
-    ensures { result ≡ node_counts.with_event told.now old.now }
+fn with_event(recorded: &RecordedEvent, old: &NodeCount) -> NodeCount
+    ensures { result ≡ node_counts.with_event recorded.now old.now }
 {
     NodeCount {
         address: old.address,
         datagrams: old.datagrams,
         came: old.came,
-        refusals: count_if(is_refused(told.answer), old.refusals),
-        forged: count_if(told.forged, old.forged),
+        refusals: count_if(is_refused(recorded.answer), old.refusals),
+        forged: count_if(recorded.forged, old.forged),
     }
 }
 
@@ -80,14 +80,14 @@ fn add_address(counts: &mut Vec<NodeCount>, address: usize, node: u32)
     counts[place] = new;
 }
 
-fn add_event(counts: &mut Vec<NodeCount>, told: &TaleEvent)
-    ensures { counts.new.items ≡ node_counts.event_added told.now counts.old.items }
+fn add_event(counts: &mut Vec<NodeCount>, recorded: &RecordedEvent)
+    ensures { counts.new.items ≡ node_counts.event_added recorded.now counts.old.items }
 {
-    let place = actor_of(&told.act) as usize;
+    let place = actor_of(&recorded.act) as usize;
     let Some(old) = counts.get(place) else {
         return;
     };
-    let new = with_event(told, old);
+    let new = with_event(recorded, old);
     counts[place] = new;
 }
 
@@ -113,10 +113,10 @@ pub fn add_addresses(counts: &mut Vec<NodeCount>, homes: &[u32])
 }
 
 /// What events say of their nodes.
-pub fn add_events(counts: &mut Vec<NodeCount>, events: &[TaleEvent])
+pub fn add_events(counts: &mut Vec<NodeCount>, events: &[RecordedEvent])
     ensures { counts.new.items ≡ node_counts.events_added events.now counts.old.items }
 {
-    for told in events {
-        add_event(counts, told);
+    for recorded in events {
+        add_event(counts, recorded);
     }
 }

@@ -6,7 +6,7 @@ ghost use Rattle.run_pages.specs.NodeTables as tables;
 use crate::counting::{is_kind, is_yes};
 use crate::node_counts::{NodeCount, add_addresses, add_datagram, add_events, no_count};
 use frame_words::push_short;
-use line_tale::{Story, StoryKind, is_good};
+use line_record::{Story, StoryKind, is_good};
 use markup::{Attribute, Element};
 use markup_parts::{count, end, given, open, push_pieces, start, text};
 use node_pasts::{Change, Mode, Pasts};
@@ -23,7 +23,7 @@ fn counts_before(account: &Account<'_>) -> Result<Vec<NodeCount>, AllocError>
     let mut counts = Vec::new(account.alloc);
     counts.resize(account.euis.len(), no_count())?;
     add_addresses(&mut counts, account.homes);
-    add_events(&mut counts, account.tale.events.as_slice());
+    add_events(&mut counts, account.run_record.events.as_slice());
     Ok(counts)
 }
 

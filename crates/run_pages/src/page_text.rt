@@ -6,7 +6,7 @@ ghost use Rattle.run_pages.specs.Pages as pages;
 use crate::counting::{count_if, is_kind, is_yes};
 use crate::node_table::push_nodes_table;
 use crate::reasons::push_reasons;
-use line_tale::{Lot, Story, StoryKind, TaleEvent, is_good, is_refused};
+use line_record::{Course, RecordedEvent, Story, StoryKind, is_good, is_refused};
 use markup::{Attribute, Element};
 use markup_parts::{end, given, given_number, open, push_pieces, start};
 use page_frame::{push_page_end, push_page_start};
@@ -53,16 +53,16 @@ impl<'a> Model for Sheet<'a> {
     } };
 }
 
-/// A run of at most so many events is shown whole.
+/// A run of at most this many events is shown whole.
 const WHOLE: usize = 600;
 
-/// That of at most so many is shown before its stories.
+/// That of at most this many is shown before its stories.
 const FIRST: usize = 60;
 
-/// So many of the stories that failed have a chart.
+/// This many of the stories that failed have a chart.
 const FAILED_CHARTS: usize = 300;
 
-/// So many of the others of a kind.
+/// This many of the others of a kind.
 const CHARTS: usize = 100;
 
 /// The kinds of stories in their order.
@@ -140,37 +140,37 @@ fn all_of(stories: &[Story], kind: StoryKind) -> usize
 }
 
 // How many of these events were refused.
-fn refused_among(events: &[TaleEvent]) -> usize
+fn refused_among(events: &[RecordedEvent]) -> usize
     ensures { result ≡ pages.refusals_from events.now 0 }
 {
     let mut all = 0;
-    for told in events {
-        all = count_if(is_refused(told.answer), all);
+    for recorded in events {
+        all = count_if(is_refused(recorded.answer), all);
     }
     all
 }
 
 // How many of these flights never came to the node that they were for.
-fn missed_among(lots: &[Lot]) -> usize
-    ensures { result ≡ pages.missed_from lots.now 0 }
+fn missed_among(courses: &[Course]) -> usize
+    ensures { result ≡ pages.missed_from courses.now 0 }
 {
     let mut all = 0;
-    for lot in lots {
-        all = count_if(is_missed(&lot.fate), all);
+    for course in courses {
+        all = count_if(is_missed(&course.fate), all);
     }
     all
 }
 
 // The place of the first event that is forged.
-fn forged_place(events: &[TaleEvent]) -> Option<usize>
+fn forged_place(events: &[RecordedEvent]) -> Option<usize>
     ensures value { result ≡ position pages.is_forged events.now }
     ensures bound { IfSome result (λ p. p < length events.now) }
 {
-    events.iter().position(|told| told.forged)
+    events.iter().position(|recorded| recorded.forged)
 }
 
 // The number of the first event that is forged.
-fn first_forged(events: &[TaleEvent]) -> Option<usize>
+fn first_forged(events: &[RecordedEvent]) -> Option<usize>
     ensures { result ≡ pages.first_forged events.now }
 {
     match forged_place(events) {
@@ -192,7 +192,7 @@ fn forged_text(account: &Account<'_>, event: usize) -> Result<String, AllocError
     ])
 }
 
-// The numbers of so many events.
+// The numbers of this many events.
 fn numbers_to(alloc: Global, count: usize) -> Result<Vec<usize>, AllocError>
     ensures { IfOk result (λ numbers. numbers.items ≡ pages.numbers_to count) }
 {
@@ -267,7 +267,7 @@ fn push_whole(out: &mut Vec<u8>, run: &ChartRun<'_>, events: &[usize]) -> Result
 fn push_map_of(out: &mut Vec<u8>, run: &ChartRun<'_>, homes: &[u32]) -> Result<(), AllocError>
     ensures { OnOk result (out.new.items ≡ out.old.items ++ markup_text (pages.map_of run.now homes.now)) }
 {
-    push_map(out, run.alloc, run.tale, run.pasts, homes)
+    push_map(out, run.alloc, run.run_record, run.pasts, homes)
 }
 
 fn push_map_card(out: &mut Vec<u8>, run: &ChartRun<'_>, homes: &[u32]) -> Result<(), AllocError>
@@ -378,14 +378,14 @@ impl<'a> Sheet<'a> {
         ensures { result ≡ pages.refusals self.now }
     {
         let account = self.account;
-        refused_among(account.tale.events.as_slice())
+        refused_among(account.run_record.events.as_slice())
     }
 
     fn missed(&self) -> usize
         ensures { result ≡ pages.missed self.now }
     {
         let account = self.account;
-        missed_among(account.lots)
+        missed_among(account.courses)
     }
 
     // What else is counted of the run.
@@ -425,9 +425,9 @@ impl<'a> Sheet<'a> {
         ensures { result ≡ pages.seconds self.now }
     {
         let account = self.account;
-        match account.tale.events.last() {
+        match account.run_record.events.last() {
             None => 0,
-            Some(told) => told.clock as usize,
+            Some(recorded) => recorded.clock as usize,
         }
     }
 
@@ -458,7 +458,7 @@ impl<'a> Sheet<'a> {
         ensures { result ≡ pages.first_forged self.now.account.events }
     {
         let account = self.account;
-        first_forged(account.tale.events.as_slice())
+        first_forged(account.run_record.events.as_slice())
     }
 
     fn push_forged_at(&self, out: &mut Vec<u8>, event: usize) -> Result<(), AllocError>
@@ -490,7 +490,7 @@ impl<'a> Sheet<'a> {
             return Ok(());
         }
         let account = self.account;
-        let events = numbers_to(account.alloc, account.tale.events.len())?;
+        let events = numbers_to(account.alloc, account.run_record.events.len())?;
         push_whole(out, run, events.as_slice())
     }
 
@@ -691,7 +691,7 @@ impl<'a> Sheet<'a> {
         ensures { OnOk result (out.new.items ≡ out.old.items ++ markup_text (pages.parts self.now run.now)) }
     {
         let account = self.account;
-        let events = account.tale.events.len();
+        let events = account.run_record.events.len();
         self.push_failed(out, run)?;
         self.push_views(out, run)?;
         self.push_whole_if(out, run, events <= FIRST)?;

@@ -10,7 +10,7 @@ use sentence_parts::{number, sentence, words};
 use std::alloc::{AllocError, Global};
 use story_accounts::{Account, Group, SECTIONS, Section, section_title};
 
-/// So many stories of a reason have a link.
+/// This many stories of a reason have a link.
 const MOST: usize = 8;
 
 // The place of a story on the page.

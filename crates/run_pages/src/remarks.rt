@@ -1,6 +1,6 @@
 //! What the comments of a script say.
 ghost use Rattle.std.specs.Prelude.{◌≡◌, ◌<◌, IfSome, OnOk, length, map, position, string_bytes};
-ghost use Rattle.run_pages.specs.Remarking as remarking;
+ghost use Rattle.run_pages.specs.Remarks as remarks;
 
 use std::alloc::{AllocError, Global};
 use std::marker::Model;
@@ -15,7 +15,7 @@ pub struct Remarks {
 
 impl Model for Remarks {
     ghost use Rattle.std.specs.Prelude.{map, string_bytes};
-    ghost use Rattle.run_pages.specs.Remarking.{Remarked};
+    ghost use Rattle.run_pages.specs.Remarks.{Remarked};
 
     ghost Value = { Remarked };
 
@@ -28,13 +28,13 @@ impl Model for Remarks {
 
 // Whether an octet is none of the signs and spaces before a comment.
 fn is_said(octet: u8) -> bool
-    ensures { result ≡ remarking.is_said octet }
+    ensures { result ≡ remarks.is_said octet }
 {
     octet != b'#' && octet != b' '
 }
 
 fn first_said(line: &[u8]) -> Option<usize>
-    ensures value { result ≡ position remarking.is_said line.now }
+    ensures value { result ≡ position remarks.is_said line.now }
     ensures bound { IfSome result (λ p. p < length line.now) }
 {
     line.iter().position(|octet| is_said(*octet))
@@ -42,7 +42,7 @@ fn first_said(line: &[u8]) -> Option<usize>
 
 // The octets of a comment after its signs `#` and the spaces after them.
 fn comment_in(line: &[u8]) -> &[u8]
-    ensures { result.now ≡ remarking.comment_in line.now }
+    ensures { result.now ≡ remarks.comment_in line.now }
 {
     match first_said(line) {
         None => &[],
@@ -51,16 +51,16 @@ fn comment_in(line: &[u8]) -> &[u8]
 }
 
 fn first_space(octets: &[u8]) -> Option<usize>
-    ensures value { result ≡ position remarking.is_space octets.now }
+    ensures value { result ≡ position remarks.is_space octets.now }
     ensures bound { IfSome result (λ p. p < length octets.now) }
 {
     octets.iter().position(|octet| *octet == b' ')
 }
 
 // What comes after the time and the word `title` of a remark.
-#[tactic(auto, unfolding(crate::specs::Remarking::title_after))]
+#[tactic(auto, unfolding(crate::specs::Remarks::title_after))]
 fn title_after(octets: &[u8]) -> &[u8]
-    ensures { result.now ≡ remarking.title_after octets.now }
+    ensures { result.now ≡ remarks.title_after octets.now }
 {
     match octets.strip_prefix(b" title ") {
         Some(words) => words,
@@ -70,7 +70,7 @@ fn title_after(octets: &[u8]) -> &[u8]
 
 // The title that a remark gives, by what comes after its sign.
 fn title_in_remark(octets: &[u8]) -> &[u8]
-    ensures { result.now ≡ remarking.title_in_remark octets.now }
+    ensures { result.now ≡ remarks.title_in_remark octets.now }
 {
     match first_space(octets) {
         None => &[],
@@ -79,9 +79,9 @@ fn title_in_remark(octets: &[u8]) -> &[u8]
 }
 
 // The octets of a line that may be a title: a comment, or the words of the remark `title` of `line_sim`.
-#[tactic(auto, unfolding(crate::specs::Remarking::title_in))]
+#[tactic(auto, unfolding(crate::specs::Remarks::title_in))]
 fn title_in(line: &[u8]) -> &[u8]
-    ensures { result.now ≡ remarking.title_in line.now }
+    ensures { result.now ≡ remarks.title_in line.now }
 {
     match line.strip_prefix(b"#@ ") {
         Some(remark) => title_in_remark(remark),
@@ -92,7 +92,7 @@ fn title_in(line: &[u8]) -> &[u8]
 impl Remarks {
     /// No line so far. It takes no memory.
     pub fn new(alloc: Global) -> Remarks
-        ensures { result ≡ remarking.no_remarks }
+        ensures { result ≡ remarks.no_remarks }
     {
         Remarks {
             title: String::new(alloc),
@@ -103,7 +103,7 @@ impl Remarks {
 
     // Takes the title of a line, where there is none so far.
     fn take_title(&mut self, alloc: Global, line: &[u8]) -> Result<(), AllocError>
-        ensures { OnOk result (self.new ≡ remarking.with_title line.now self.old) }
+        ensures { OnOk result (self.new ≡ remarks.with_title line.now self.old) }
     {
         if self.title.is_empty() {
             self.title = String::from_utf8_lossy(alloc, title_in(line))?;
@@ -115,7 +115,7 @@ impl Remarks {
     ///
     /// It fails only where memory runs out; what is left then is not said.
     pub fn take(&mut self, alloc: Global, line: &[u8]) -> Result<(), AllocError>
-        ensures { OnOk result (self.new ≡ remarking.with_line line.now self.old) }
+        ensures { OnOk result (self.new ≡ remarks.with_line line.now self.old) }
     {
         self.take_title(alloc, line)?;
         let words = String::from_utf8_lossy(alloc, comment_in(line))?;
@@ -132,7 +132,7 @@ impl Remarks {
     ///
     /// It fails only where memory runs out; what is left then is not said.
     pub fn end(&mut self, alloc: Global) -> Result<(), AllocError>
-        ensures { OnOk result (self.new ≡ remarking.with_event self.old) }
+        ensures { OnOk result (self.new ≡ remarks.with_event self.old) }
     {
         let said = String::from_str(alloc, self.pending.as_str())?;
         self.notes.push(said)?;

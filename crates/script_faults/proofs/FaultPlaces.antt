@@ -8,7 +8,7 @@ use Rattle.std.proofs.lemmas.List.{length-append, append_assoc, append-nil, take
 use Rattle.std.proofs.Math.Seq.{take-append_seam, take-append-add}
 use Rattle.hex.specs.Hex.{decode_pairs}
 use Rattle.line_script.specs.Words.{Field, field, number, number_within, hex_octets, keeps_new}
-use Rattle.line_script.specs.Readings.{reads}
+use Rattle.line_script.specs.LineReader.{reads}
 use Rattle.line_script.proofs.WordsRead.{IsWord, field_read}
 use Rattle.script_faults.specs.declared.form.WordKind.{WordKind}
 use Rattle.script_faults.specs.declared.form.WordKind.TheVariants as words

@@ -5,4 +5,4 @@ pub mod Nearer
 pub mod StrayOctets
 pub mod FaultPlaces
 pub mod LinePlaces
-pub mod LineTold
+pub mod FoundLines

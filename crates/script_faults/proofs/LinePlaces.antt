@@ -10,7 +10,7 @@ use Rattle.line_script.specs.declared.kind.EventKind.TheVariants as kinds
 use Rattle.line_script.specs.declared.reading.Reading.TheVariants.{Quiet}
 use Rattle.line_script.specs.Kinds.{kind_word, kind_named}
 use Rattle.line_script.specs.Words.{◌>>=◌, field}
-use Rattle.line_script.specs.Readings.{event_by, event_alone, event_with, event_of, reads, reading}
+use Rattle.line_script.specs.LineReader.{event_by, event_alone, event_with, event_of, reads, reading}
 use Rattle.line_script.proofs.WordsRead.{IsWord, field_read}
 use Rattle.script_faults.specs.declared.form.Form.{Form}
 use Rattle.script_faults.specs.declared.form.Form.TheVariants.{Alone, One, Two, Three}
@@ -69,7 +69,7 @@ alone_kind kinds.Near = inl refl
 alone_kind kinds.Counter = inl refl
 alone_kind kinds.Number = inl refl
 alone_kind kinds.Allow = inl refl
-alone_kind kinds.Rand = inl refl
+alone_kind kinds.RandomOctets = inl refl
 alone_kind kinds.Join = inl refl
 alone_kind kinds.Leave = inl refl
 alone_kind kinds.Send = inl refl

@@ -9,9 +9,9 @@ use Rattle.line_script.specs.declared.kind.EventKind.TheVariants as kinds
 use Rattle.line_script.specs.declared.reading.Reading.TheVariants.{Quiet}
 use Rattle.line_script.specs.Kinds.{kind_named, kind_word}
 use Rattle.line_script.specs.Words.{◌>>=◌, Field, field, number, number_within, cost, eui, sixteen_octets, hex_octets, keeps_new}
-use Rattle.line_script.specs.Readings.{coordinator_of, meter_of, depot_of, near_of, counter_of, number_of, allow_of, rand_of, join_of, leave_of, send_of}
-use Rattle.line_script.specs.Readings.{deliver_of, inject_of, lose_of, break_of, tick_of, restart_of, cut_of, rekey_of, challenge_of, activate_of, kick_of}
-use Rattle.line_script.specs.Readings.{show_of, bcast_of, scan_of, choose_of, path_of, event_by, event_alone, event_with, event_of, reads, reading}
+use Rattle.line_script.specs.LineReader.{coordinator_of, meter_of, depot_of, near_of, counter_of, number_of, allow_of, rand_of, join_of, leave_of, send_of}
+use Rattle.line_script.specs.LineReader.{deliver_of, inject_of, lose_of, break_of, tick_of, restart_of, cut_of, rekey_of, challenge_of, activate_of, kick_of}
+use Rattle.line_script.specs.LineReader.{show_of, bcast_of, scan_of, choose_of, path_of, event_by, event_alone, event_with, event_of, reads, reading}
 use Rattle.script_faults.specs.declared.form.WordKind.{WordKind}
 use Rattle.script_faults.specs.declared.form.WordKind.TheVariants as words
 use Rattle.script_faults.specs.declared.form.Form.{Form}
@@ -126,7 +126,7 @@ allow_line rest = some_then (number rest) (λ node. events.Allow node)
 
 rand_line : (rest : List ℕ) → is_some (rand_of rest) ≡ two_ok words.Node words.Random rest
 unfolding rand_of
-rand_line rest = two number sixteen_octets (λ node value. events.Rand node (record { 0 = value })) words.Node words.Random number_ok sixteen_is rest
+rand_line rest = two number sixteen_octets (λ node value. events.RandomOctets node (record { 0 = value })) words.Node words.Random number_ok sixteen_is rest
 
 join_line : (rest : List ℕ) → is_some (join_of rest) ≡ two_ok words.Node words.Node rest
 unfolding join_of
@@ -218,7 +218,7 @@ line_by kinds.Near rest = near_line rest
 line_by kinds.Counter rest = counter_line rest
 line_by kinds.Number rest = number_line rest
 line_by kinds.Allow rest = allow_line rest
-line_by kinds.Rand rest = rand_line rest
+line_by kinds.RandomOctets rest = rand_line rest
 line_by kinds.Join rest = join_line rest
 line_by kinds.Leave rest = leave_line rest
 line_by kinds.Send rest = send_line rest

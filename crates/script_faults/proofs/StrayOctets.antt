@@ -132,7 +132,7 @@ stray_word words.Record w next b = stray_record w next b
 abbrev all_kinds : List EventKind
 all_kinds =
     kinds.Send ∷ kinds.Deliver ∷ kinds.Tick ∷ kinds.Inject ∷ kinds.Lose ∷ kinds.Coordinator ∷ kinds.Meter ∷ kinds.Depot ∷ kinds.Near ∷ kinds.Counter
-    ∷ kinds.Number ∷ kinds.Allow ∷ kinds.Rand ∷ kinds.Join ∷ kinds.Leave ∷ kinds.Break ∷ kinds.Restart ∷ kinds.Cut ∷ kinds.Rekey ∷ kinds.Challenge
+    ∷ kinds.Number ∷ kinds.Allow ∷ kinds.RandomOctets ∷ kinds.Join ∷ kinds.Leave ∷ kinds.Break ∷ kinds.Restart ∷ kinds.Cut ∷ kinds.Rekey ∷ kinds.Challenge
     ∷ kinds.Activate ∷ kinds.Kick ∷ kinds.Show ∷ kinds.Checks ∷ kinds.Bcast ∷ kinds.Scan ∷ kinds.Choose ∷ kinds.Path ∷ []
 
 pub clean_kind : (kind : EventKind) → is_clean (kind_word kind) ≡ true
@@ -143,7 +143,7 @@ clean_kind kinds.Near = refl
 clean_kind kinds.Counter = refl
 clean_kind kinds.Number = refl
 clean_kind kinds.Allow = refl
-clean_kind kinds.Rand = refl
+clean_kind kinds.RandomOctets = refl
 clean_kind kinds.Join = refl
 clean_kind kinds.Leave = refl
 clean_kind kinds.Send = refl

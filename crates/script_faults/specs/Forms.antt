@@ -26,7 +26,7 @@ form_of kinds.Near = Three words.Node words.Node words.Cost
 form_of kinds.Counter = Two words.Node words.Counter
 form_of kinds.Number = Two words.Node words.Own
 form_of kinds.Allow = One words.Node
-form_of kinds.Rand = Two words.Node words.Random
+form_of kinds.RandomOctets = Two words.Node words.Random
 form_of kinds.Join = Two words.Node words.Node
 form_of kinds.Leave = One words.Node
 form_of kinds.Send = Three words.Node words.Node words.Octets
@@ -48,7 +48,7 @@ form_of kinds.Scan = One words.Node
 form_of kinds.Choose = Two words.Node words.Choice
 form_of kinds.Path = Two words.Node words.Node
 
--- whether a word is of so many digits in hexadecimal
+-- whether a word is of this many digits in hexadecimal
 abbrev pub is_digits : ℕ → List ℕ → Bool
 is_digits count word = (length word == count) && is_some (hex_octets word)
 

@@ -1,6 +1,6 @@
 -- Where a line stops being one that can be read.
 use Rattle.std.specs.Prelude.{ℕ, ◌≡◌, ◌+◌, ◌<◌, ◌≤◌, Bool, true, false, List, [], ◌∷◌, ◌++◌, length, take}
-use Rattle.line_script.specs.Readings.{reading}
+use Rattle.line_script.specs.LineReader.{reading}
 use Rattle.script_faults.specs.Forms.{has_reading}
 
 -- whether a line is an event, a comment or empty

@@ -6,7 +6,7 @@ use Rattle.std.specs.Char.{is_ascii_digit, is_ascii_hexdigit, to_ascii_lowercase
 use Rattle.line_script.specs.declared.kind.EventKind.{EventKind}
 use Rattle.sentence_parts.specs.declared.part.Part.TheVariants as parts
 use Rattle.sentence_parts.specs.Parts.{parts_text}
-use Rattle.script_findings.specs.Findings.{Told, told, noted}
+use Rattle.script_findings.specs.Findings.{FindingParts, finding_at, noted}
 use Rattle.script_findings.specs.LineWords.{rest_at}
 use Rattle.script_faults.specs.declared.form.WordKind.{WordKind}
 use Rattle.script_faults.specs.declared.wording.Shape.{Shape}
@@ -90,20 +90,20 @@ abbrev pub is_octet : ℕ → Option ℕ → Bool
 is_octet wanted None = false
 is_octet wanted (Some c) = c == wanted
 
-abbrev pub tab_finding : ℕ → Told
+abbrev pub tab_finding : ℕ → FindingParts
 tab_finding at =
-    told at (at + 1)
+    finding_at at (at + 1)
     (parts_text (parts.Words (codes "a tab stands between the words") ∷ []))
     (parts_text (parts.Words (codes "one space is expected here") ∷ []))
 
 -- the note at an octet that begins the space that breaks no line
-abbrev pub with_space : Bool → Told → Told
+abbrev pub with_space : Bool → FindingParts → FindingParts
 with_space true t = noted (parts_text (parts.Words (codes "this looks like a space that is no plain space") ∷ [])) t
 with_space false t = t
 
-unfoldable pub strange_finding : Wrong → ℕ → Told
+unfoldable pub strange_finding : Wrong → ℕ → FindingParts
 strange_finding w place =
-    told (w.at + place) (w.at + place + 1)
+    finding_at (w.at + place) (w.at + place + 1)
     (parts_text (parts.Words (codes "an octet that no line may hold: ") ∷ parts.Octets (octet_at place w.word) ∷ []))
     (parts_text (parts.Words (codes "expected ") ∷ parts.Words w.want ∷ []))
 
@@ -111,7 +111,7 @@ strange_finding w place =
 abbrev pub is_broken_space : List ℕ → ℕ → Bool
 is_broken_space word place = is_octet 194 (slice_get word place) && is_octet 160 (slice_get word (place + 1))
 
-abbrev pub octet_finding : Wrong → ℕ → ℕ → Option Told
+abbrev pub octet_finding : Wrong → ℕ → ℕ → Option FindingParts
 octet_finding w place octet =
     if octet == 9 then Some (tab_finding (w.at + place))
     else (if nat_lt 32 octet && nat_lt octet 127 then None
@@ -129,22 +129,22 @@ has_sign word = is_octet 43 (slice_get word 0) || is_octet 45 (slice_get word 0)
 unfoldable pub form_note : EventKind → List ℕ
 form_note kind = parts_text (parts.Words (codes "the form is `") ∷ parts.Words (form_text kind) ∷ parts.Words (codes "`") ∷ [])
 
-abbrev pub with_form : EventKind → Told → Told
+abbrev pub with_form : EventKind → FindingParts → FindingParts
 with_form kind t = noted (form_note kind) t
 
-unfoldable pub with_decimal : List ℕ → Told → Told
+unfoldable pub with_decimal : List ℕ → FindingParts → FindingParts
 with_decimal word t =
     if begins_hex word then noted (parts_text (parts.Words (codes "numbers are decimal") ∷ [])) t
     else (if has_sign word then noted (parts_text (parts.Words (codes "numbers have no sign") ∷ [])) t
     else t)
 
-unfoldable pub no_digits : Wrong → ℕ → Told
+unfoldable pub no_digits : Wrong → ℕ → FindingParts
 no_digits w place =
-    told w.at (w.at + length w.word)
+    finding_at w.at (w.at + length w.word)
     (parts_text (parts.Words (codes "expected ") ∷ parts.Words w.want ∷ parts.Words (codes ", found `") ∷ parts.Octets w.word ∷ parts.Words (codes "`") ∷ []))
     (parts_text (parts.Words (codes "`") ∷ parts.Octets (octet_at place w.word) ∷ parts.Words (codes "` is no digit") ∷ []))
 
-abbrev pub no_number : Wrong → ℕ → Told
+abbrev pub no_number : Wrong → ℕ → FindingParts
 no_number w place = with_form w.line (with_decimal w.word (no_digits w place))
 
 -- a number without its leading zeros
@@ -155,15 +155,15 @@ stripped_by (Some place) word = rest_at word place
 unfoldable pub stripped : List ℕ → List ℕ
 stripped word = stripped_by (position (λ c. not (c == 48)) word) word
 
-unfoldable pub zeros_finding : Wrong → Told
+unfoldable pub zeros_finding : Wrong → FindingParts
 zeros_finding w =
-    told w.at (w.at + length w.word)
+    finding_at w.at (w.at + length w.word)
     (parts_text (parts.Words (codes "a number has no leading zeros") ∷ []))
     (parts_text (parts.Words (codes "write `") ∷ parts.Octets (stripped w.word) ∷ parts.Words (codes "`") ∷ []))
 
-unfoldable pub range_finding : Wrong → Told
+unfoldable pub range_finding : Wrong → FindingParts
 range_finding w =
-    told w.at (w.at + length w.word)
+    finding_at w.at (w.at + length w.word)
     (parts_text (parts.Words (codes "expected ") ∷ parts.Words w.want ∷ parts.Words (codes ", found ") ∷ parts.Octets w.word ∷ []))
     (parts_text (parts.Words (codes "out of its range") ∷ []))
 
@@ -171,7 +171,7 @@ range_finding w =
 abbrev pub has_zeros : List ℕ → Bool
 has_zeros word = is_octet 48 (slice_get word 0) && nat_lt 1 (length word)
 
-abbrev pub number_by : Option ℕ → Wrong → Told
+abbrev pub number_by : Option ℕ → Wrong → FindingParts
 number_by (Some place) w = no_number w place
 number_by None w = if has_zeros w.word then zeros_finding w else range_finding w
 
@@ -197,17 +197,17 @@ record_near word =
 unfoldable pub near_note : List ℕ → List ℕ
 near_note near = parts_text (parts.Words (codes "did you mean `") ∷ parts.Words near ∷ parts.Words (codes "`?") ∷ [])
 
-abbrev pub with_near : Option (List ℕ) → Told → Told
+abbrev pub with_near : Option (List ℕ) → FindingParts → FindingParts
 with_near None t = t
 with_near (Some near) t = noted (near_note near) t
 
-unfoldable pub no_record : Wrong → Told
+unfoldable pub no_record : Wrong → FindingParts
 no_record w =
-    told w.at (w.at + length w.word)
+    finding_at w.at (w.at + length w.word)
     (parts_text (parts.Words (codes "expected `old` or `new`, found `") ∷ parts.Octets w.word ∷ parts.Words (codes "`") ∷ []))
     (parts_text (parts.Words (codes "which record a cut leaves") ∷ []))
 
-abbrev pub record_finding : Wrong → Told
+abbrev pub record_finding : Wrong → FindingParts
 record_finding w = with_near (record_near w.word) (no_record w)
 
 -- # Digits in hexadecimal
@@ -215,74 +215,74 @@ record_finding w = with_near (record_near w.word) (no_record w)
 unfoldable pub is_separator : Option ℕ → Bool
 is_separator octet = is_octet 58 octet || (is_octet 45 octet || is_octet 44 octet)
 
-unfoldable pub with_plain : Bool → Bool → Told → Told
+unfoldable pub with_plain : Bool → Bool → FindingParts → FindingParts
 with_plain begins separates t =
     if begins then noted (parts_text (parts.Words (codes "octets are written without `0x`") ∷ [])) t
     else (if separates then noted (parts_text (parts.Words (codes "octets are written without separators") ∷ [])) t
     else t)
 
-unfoldable pub no_hex : Wrong → ℕ → Told
+unfoldable pub no_hex : Wrong → ℕ → FindingParts
 no_hex w place =
-    told (w.at + place) (w.at + place + 1)
+    finding_at (w.at + place) (w.at + place + 1)
     (parts_text (parts.Words (codes "`") ∷ parts.Octets (octet_at place w.word) ∷ parts.Words (codes "` is no hexadecimal digit") ∷ []))
     (parts_text (parts.Words (codes "in ") ∷ parts.Words w.want ∷ []))
 
-abbrev pub no_digit : Wrong → ℕ → Told
+abbrev pub no_digit : Wrong → ℕ → FindingParts
 no_digit w place = with_plain (begins_hex w.word) (is_separator (slice_get w.word place)) (no_hex w place)
 
 abbrev pub digits_text : ℕ → List ℕ
 digits_text count = if count == 1 then codes " digit" else codes " digits"
 
-unfoldable pub many_finding : Wrong → ℕ → Told
+unfoldable pub many_finding : Wrong → ℕ → FindingParts
 many_finding w count =
-    told (w.at + count) (w.at + length w.word)
+    finding_at (w.at + count) (w.at + length w.word)
     (parts_text
     (parts.Words (codes "expected ") ∷ parts.Words w.want ∷ parts.Words (codes ", found ") ∷ parts.Number (length w.word)
     ∷ parts.Words (codes " digits") ∷ []))
     (parts_text (parts.Number (length w.word - count) ∷ parts.Words (digits_text (length w.word - count)) ∷ parts.Words (codes " too many") ∷ []))
 
-unfoldable pub few_finding : Wrong → ℕ → Told
+unfoldable pub few_finding : Wrong → ℕ → FindingParts
 few_finding w count =
-    told w.at (w.at + length w.word)
+    finding_at w.at (w.at + length w.word)
     (parts_text
     (parts.Words (codes "expected ") ∷ parts.Words w.want ∷ parts.Words (codes ", found ") ∷ parts.Number (length w.word)
     ∷ parts.Words (codes " digits") ∷ []))
     (parts_text (parts.Number (count - length w.word) ∷ parts.Words (digits_text (count - length w.word)) ∷ parts.Words (codes " too few") ∷ []))
 
-abbrev pub digits_by : Option ℕ → Wrong → ℕ → Told
+abbrev pub digits_by : Option ℕ → Wrong → ℕ → FindingParts
 digits_by (Some place) w count = no_digit w place
 digits_by None w count = if nat_lt count (length w.word) then many_finding w count else few_finding w count
 
-unfoldable pub odd_finding : Wrong → Told
+unfoldable pub odd_finding : Wrong → FindingParts
 odd_finding w =
-    told w.at (w.at + length w.word)
+    finding_at w.at (w.at + length w.word)
     (parts_text (parts.Words (codes "octets are pairs of digits, and here are ") ∷ parts.Number (length w.word) ∷ parts.Words (codes " digits") ∷ []))
     (parts_text (parts.Words (codes "one digit too few or too many") ∷ []))
 
-abbrev pub pairs_by : Option ℕ → Wrong → Told
+abbrev pub pairs_by : Option ℕ → Wrong → FindingParts
 pairs_by (Some place) w = no_digit w place
 pairs_by None w = odd_finding w
 
 -- # By the shape of the word
 
-abbrev pub shape_finding : Shape → Wrong → Told
+abbrev pub shape_finding : Shape → Wrong → FindingParts
 shape_finding (Number low high) w = number_by w.bad w
 shape_finding (Digits count) w = digits_by w.bad w count
 shape_finding Pairs w = pairs_by w.bad w
 shape_finding Record w = record_finding w
 
 -- an octet that no word has comes first
-abbrev pub or_shape : Option Told → Wrong → Told
+abbrev pub or_shape : Option FindingParts → Wrong → FindingParts
 or_shape (Some t) w = t
 or_shape None w = shape_finding (shape_of w.kind) w
 
-abbrev pub octet_by : Option ℕ → Wrong → ℕ → Option Told
+abbrev pub octet_by : Option ℕ → Wrong → ℕ → Option FindingParts
 octet_by None w place = None
 octet_by (Some octet) w place = octet_finding w place octet
 
-abbrev pub bad_octet : Option ℕ → Wrong → Option Told
+abbrev pub bad_octet : Option ℕ → Wrong → Option FindingParts
 bad_octet None w = None
 bad_octet (Some place) w = octet_by (slice_get w.word place) w place
 
-unfoldable pub word_finding : Wrong → Told
+unfoldable pub word_finding : Wrong → FindingParts
 word_finding w = or_shape (bad_octet w.bad w) w

@@ -4,7 +4,7 @@ ghost use Rattle.std.specs.Option.{option_map};
 ghost use Rattle.std.specs.Str.{bytes_eq};
 ghost use Rattle.line_script.specs.declared.word.TheConstants.{LINE_OCTETS};
 ghost use Rattle.line_script.specs.Kinds.{kind_named};
-ghost use Rattle.line_script.specs.Readings.{reading};
+ghost use Rattle.line_script.specs.LineReader.{reading};
 ghost use Rattle.line_script.specs.Words.{Field, field};
 ghost use Rattle.script_faults.specs.Forms as forms;
 ghost use Rattle.script_faults.specs.Places.{IsPlace};

@@ -95,7 +95,7 @@ pub fn form_of(kind: EventKind) -> Form
         EventKind::Counter => two(WordKind::Node, WordKind::Counter),
         EventKind::Number => two(WordKind::Node, WordKind::Own),
         EventKind::Allow => one(WordKind::Node),
-        EventKind::Rand => two(WordKind::Node, WordKind::Random),
+        EventKind::RandomOctets => two(WordKind::Node, WordKind::Random),
         EventKind::Join => two(WordKind::Node, WordKind::Node),
         EventKind::Leave => one(WordKind::Node),
         EventKind::Send => three(WordKind::Node, WordKind::Node, WordKind::Octets),
@@ -134,7 +134,7 @@ fn is_number(word: &[u8]) -> bool
     is_within(0, u32::MAX, word)
 }
 
-// Whether a word is of so many digits in hexadecimal.
+// Whether a word is of this many digits in hexadecimal.
 fn is_digits(count: usize, word: &[u8], space: &mut [u8]) -> bool
     requires { length space.old ≡ LINE_OCTETS }
     ensures { result ≡ forms.is_digits count word.now }

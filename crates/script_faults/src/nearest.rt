@@ -29,7 +29,7 @@ pub const KINDS: [EventKind; 28] = [
     EventKind::Near,
     EventKind::Number,
     EventKind::Path,
-    EventKind::Rand,
+    EventKind::RandomOctets,
     EventKind::Rekey,
     EventKind::Restart,
     EventKind::Scan,

@@ -18,7 +18,7 @@ pub fn form_words(kind: EventKind) -> &'static str
         EventKind::Counter => "counter <node> <value>",
         EventKind::Number => "number <node> <value>",
         EventKind::Allow => "allow <node>",
-        EventKind::Rand => "rand <node> <value>",
+        EventKind::RandomOctets => "rand <node> <value>",
         EventKind::Join => "join <node> <agent>",
         EventKind::Leave => "leave <node>",
         EventKind::Send => "send <node> <node> <hex>",
@@ -103,7 +103,7 @@ pub fn wanted(line: EventKind, kind: WordKind, place: usize) -> &'static str
 pub enum Shape {
     /// A number in decimal from `low`, which is 0 or 1, to `high`.
     Number { low: u32, high: u32 },
-    /// So many digits in hexadecimal.
+    /// This many digits in hexadecimal.
     Digits { count: usize },
     /// Pairs of digits in hexadecimal.
     Pairs,

@@ -2,7 +2,7 @@
 ghost use Rattle.std.specs.Prelude.{◌≡◌, ◌==◌, ◌<◌, ◌≤◌, ◌+◌, ◌^◌, ◌∷◌, [], IfOk, IfSome, is_some, length, not, position, take};
 ghost use Rattle.std.specs.Option.{option_copied};
 ghost use Rattle.line_script.specs.declared.word.TheConstants.{LINE_OCTETS};
-ghost use Rattle.line_script.specs.Readings.{reading};
+ghost use Rattle.line_script.specs.LineReader.{reading};
 ghost use Rattle.script_findings.specs.Findings.{noted};
 ghost use Rattle.script_faults.specs.Forms.{has_reading};
 ghost use Rattle.script_faults.specs.Nearest.{meant};
@@ -509,7 +509,7 @@ fn plain_finding(
     }
 }
 
-// Of a line with a carriage return at its end, before which so many octets stand.
+// Of a line with a carriage return at its end, before which this many octets stand.
 fn returned(alloc: Global, line: &[u8], end: usize, space: &mut [u8]) -> Result<Finding, AllocError>
     requires space { length space.old ≡ LINE_OCTETS }
     requires place { length line.now < 2 ^ 63 }

@@ -2,7 +2,7 @@
 use Rattle.std.specs.Prelude.{ℕ, List, [], ◌∷◌, ◌++◌}
 
 -- What is marked of a line, what is wrong with it, a few words at the mark, and what helps.
-pub record Told : Type 0 where
+pub record FindingParts : Type 0 where
   -- the place of the first octet that is marked, from 0, and the place after the last one
   pub start : ℕ
   pub end : ℕ
@@ -10,9 +10,9 @@ pub record Told : Type 0 where
   pub label : List ℕ
   pub notes : List (List ℕ)
 
-abbrev pub told : ℕ → ℕ → List ℕ → List ℕ → Told
-told start end message label = record { start = start; end = end; message = message; label = label; notes = [] }
+abbrev pub finding_at : ℕ → ℕ → List ℕ → List ℕ → FindingParts
+finding_at start end message label = record { start = start; end = end; message = message; label = label; notes = [] }
 
 -- with a line more that helps
-abbrev pub noted : List ℕ → Told → Told
+abbrev pub noted : List ℕ → FindingParts → FindingParts
 noted note t = record t { notes = t.notes ++ (note ∷ []) }

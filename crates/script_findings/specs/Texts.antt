@@ -6,7 +6,7 @@ use Rattle.hex.specs.Hex.{encode_lower}
 use Rattle.sentence_parts.specs.declared.part.Part.TheVariants.{Words, Number}
 use Rattle.sentence_parts.specs.Parts.{is_printable, parts_text}
 use Rattle.script_findings.specs.declared.finding.Cut.{Cut}
-use Rattle.script_findings.specs.Findings.{Told}
+use Rattle.script_findings.specs.Findings.{FindingParts}
 
 -- # The line with its mark
 
@@ -40,7 +40,7 @@ excerpt_text line cut =
     dots (nat_lt 0 cut.start)
     ++ (shown_text (take (cut.end - cut.start) (drop cut.start line)) ++ dots (nat_lt cut.end (length line)))
 
--- a sign so many times
+-- a sign this many times
 unfoldable pub repeated : List ℕ → ℕ → List ℕ
 repeated sign zero = []
 repeated sign (suc n) = repeated sign n ++ sign
@@ -60,7 +60,7 @@ mark_end cut length end =
     ((cut.end - cut.start) + width (nat_lt 0 cut.start) + width (nat_lt cut.end length))
 
 -- the mark under a line of this length, at least one column wide
-abbrev pub mark_text : Cut → ℕ → Told → List ℕ
+abbrev pub mark_text : Cut → ℕ → FindingParts → List ℕ
 mark_text cut length t =
     repeated (codes " ") (mark_start cut t.start)
     ++ repeated (codes "^") (max (mark_end cut length t.end - mark_start cut t.start) 1)
@@ -71,15 +71,15 @@ mark_text cut length t =
 unfoldable pub gap_text : ℕ → List ℕ
 gap_text row = repeated (codes " ") (length (decimal row))
 
-abbrev pub head_text : List ℕ → Told → List ℕ
+abbrev pub head_text : List ℕ → FindingParts → List ℕ
 head_text reason t =
     parts_text (Words (codes "error[") ∷ Words reason ∷ Words (codes "]: ") ∷ Words t.message ∷ Words (codes "\n") ∷ [])
 
 -- where it is
-unfoldable pub spot_text : ℕ → Told → List ℕ
+unfoldable pub spot_text : ℕ → FindingParts → List ℕ
 spot_text row t = parts_text (Words (codes "--> script:") ∷ Number row ∷ Words (codes ":") ∷ Number (column t.start) ∷ [])
 
-abbrev pub place_text : ℕ → Told → List ℕ
+abbrev pub place_text : ℕ → FindingParts → List ℕ
 place_text row t = gap_text row ++ (spot_text row t ++ codes "\n")
 
 -- the line, or what is shown of it
@@ -89,7 +89,7 @@ line_text row line cut =
     ++ (parts_text (Words (codes " |\n") ∷ Number row ∷ Words (codes " | ") ∷ []) ++ (excerpt_text line cut ++ codes "\n"))
 
 -- the mark and the words at it
-abbrev pub mark_line : ℕ → ℕ → Cut → Told → List ℕ
+abbrev pub mark_line : ℕ → ℕ → Cut → FindingParts → List ℕ
 mark_line row length cut t =
     gap_text row
     ++ (codes " | " ++ (mark_text cut length t ++ parts_text (Words (codes " ") ∷ Words t.label ∷ Words (codes "\n") ∷ [])))
@@ -102,19 +102,19 @@ note_line row note = gap_text row ++ parts_text (Words (codes " = ") ∷ Words n
 abbrev pub notes_text : ℕ → List (List ℕ) → List ℕ
 notes_text row notes = flat_map (note_line row) notes ++ codes "\n"
 
-abbrev pub marked_text : ℕ → List ℕ → Told → Cut → List ℕ
+abbrev pub marked_text : ℕ → List ℕ → FindingParts → Cut → List ℕ
 marked_text row line t cut = line_text row line cut ++ mark_line row (length line) cut t
 
 -- what is wrong with a line of this number
-abbrev pub finding_text : List ℕ → ℕ → List ℕ → Told → List ℕ
+abbrev pub finding_text : List ℕ → ℕ → List ℕ → FindingParts → List ℕ
 finding_text reason row line t =
     head_text reason t ++ (place_text row t ++ (marked_text row line t (cut_of (length line) t.start) ++ notes_text row t.notes))
 
 -- the same of a line whose octets are not kept
-abbrev pub unseen_place : ℕ → Told → List ℕ
+abbrev pub unseen_place : ℕ → FindingParts → List ℕ
 unseen_place row t = gap_text row ++ (spot_text row t ++ parts_text (Words (codes ": ") ∷ Words t.label ∷ Words (codes "\n") ∷ []))
 
-abbrev pub unseen_text : List ℕ → ℕ → Told → List ℕ
+abbrev pub unseen_text : List ℕ → ℕ → FindingParts → List ℕ
 unseen_text reason row t = head_text reason t ++ (unseen_place row t ++ notes_text row t.notes)
 
 -- # JSON (RFC 8259)
@@ -139,7 +139,7 @@ abbrev pub list_text : List (List ℕ) → List ℕ
 list_text [] = []
 list_text (first ∷ rest) = quoted first ++ flat_map more_quoted rest
 
-unfoldable pub numbers_text : List ℕ → ℕ → Told → List ℕ
+unfoldable pub numbers_text : List ℕ → ℕ → FindingParts → List ℕ
 numbers_text reason row t =
     parts_text
     (Words (codes "{\"line\": ") ∷ Number row ∷ Words (codes ", \"column\": ") ∷ Number (column t.start) ∷ Words (codes ", \"end\": ")
@@ -148,9 +148,9 @@ numbers_text reason row t =
 unfoldable pub helps_text : List (List ℕ) → List ℕ
 helps_text notes = codes ", \"notes\": [" ++ (list_text notes ++ codes "]}\n")
 
-unfoldable pub said_text : Told → List ℕ
+unfoldable pub said_text : FindingParts → List ℕ
 said_text t = named (codes "\", \"message\": ") t.message ++ (named (codes ", \"label\": ") t.label ++ helps_text t.notes)
 
 -- an object in a line; columns are counted from 1
-abbrev pub object_text : List ℕ → ℕ → Told → List ℕ
+abbrev pub object_text : List ℕ → ℕ → FindingParts → List ℕ
 object_text reason row t = numbers_text reason row t ++ said_text t

@@ -25,9 +25,9 @@ pub struct Finding {
 
 impl Model for Finding {
     ghost use Rattle.std.specs.Prelude.{map, string_bytes};
-    ghost use Rattle.script_findings.specs.Findings.{Told};
+    ghost use Rattle.script_findings.specs.Findings.{FindingParts};
 
-    ghost Value = { Told };
+    ghost Value = { FindingParts };
 
     ghost view = { λ f. record {
       start = f.start;
@@ -47,7 +47,7 @@ impl Finding {
         message: &[Part<'_>],
         label: &[Part<'_>],
     ) -> Result<Finding, AllocError>
-        ensures { IfOk result (λ f. f ≡ spec_findings.told start end (parts_text message.now) (parts_text label.now)) }
+        ensures { IfOk result (λ f. f ≡ spec_findings.finding_at start end (parts_text message.now) (parts_text label.now)) }
     {
         Ok(Finding {
             start,

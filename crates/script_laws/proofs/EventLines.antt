@@ -14,9 +14,9 @@ use Rattle.line_script.specs.declared.kind.EventKind.{EventKind}
 use Rattle.line_script.specs.declared.kind.EventKind.TheVariants as kinds
 use Rattle.line_script.specs.Kinds.{kind_among, kind_named, kind_word}
 use Rattle.line_script.specs.Words.{◌>>=◌, Field, field}
-use Rattle.line_script.specs.Readings.{event_alone, event_by, event_of, event_with}
+use Rattle.line_script.specs.LineReader.{event_alone, event_by, event_of, event_with}
 use Rattle.line_script.specs.Lines.{line_of, spaced}
-use Rattle.script_laws.specs.Spellings.{lower_word, lower_line}
+use Rattle.script_laws.specs.LowerCase.{lower_word, lower_line}
 use Rattle.script_laws.proofs.Letters.{same_if}
 use Rattle.script_laws.proofs.Words.{IsDivided, IsSplit, divided, field_splits, if_then, last_word, lower_field, lower_fields, not_hex, same_word}
 use Rattle.script_laws.proofs.Hexadecimal.{lower_digits_are}
@@ -52,7 +52,7 @@ none_among word (kind ∷ ks) are others =
 -- in the order in which a word is compared with them
 abbrev all_kinds : List EventKind
 all_kinds = kinds.Send ∷ kinds.Deliver ∷ kinds.Tick ∷ kinds.Inject ∷ kinds.Lose ∷ kinds.Coordinator ∷ kinds.Meter ∷ kinds.Depot ∷ kinds.Near ∷ kinds.Counter
-    ∷ kinds.Number ∷ kinds.Allow ∷ kinds.Rand ∷ kinds.Join ∷ kinds.Leave ∷ kinds.Break ∷ kinds.Restart ∷ kinds.Cut ∷ kinds.Rekey ∷ kinds.Challenge
+    ∷ kinds.Number ∷ kinds.Allow ∷ kinds.RandomOctets ∷ kinds.Join ∷ kinds.Leave ∷ kinds.Break ∷ kinds.Restart ∷ kinds.Cut ∷ kinds.Rekey ∷ kinds.Challenge
     ∷ kinds.Activate ∷ kinds.Kick ∷ kinds.Show ∷ kinds.Checks ∷ kinds.Bcast ∷ kinds.Scan ∷ kinds.Choose ∷ kinds.Path ∷ []
 
 named : (word : List ℕ) → IfSome (kind_named word) (IsNamed word)

@@ -16,7 +16,7 @@ use Rattle.hex.specs.declared.error.FromHexError.TheVariants.{OddLength}
 use Rattle.line_script.specs.Words as words
 use Rattle.line_script.specs.Words.{eui, sixteen_octets, hex_octets}
 use Rattle.line_script.proofs.WordsRead.{IsWord}
-use Rattle.script_laws.specs.Spellings.{lower_word}
+use Rattle.script_laws.specs.LowerCase.{lower_word}
 use Rattle.script_laws.proofs.Letters.{in_lower_case, same_if}
 use Rattle.script_laws.proofs.Words.{IsReader, IsSpelled, if_then, if_so}
 

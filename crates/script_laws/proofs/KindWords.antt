@@ -7,18 +7,19 @@ use Rattle.std.specs.Option.{option_map}
 use Rattle.std.specs.Str.{bytes_eq}
 use Rattle.hex.specs.Hex.{is_hex_digit}
 use Rattle.line_events.specs.declared.event.Event.{Event}
-use Rattle.line_events.specs.declared.event.Event.TheVariants.{Coordinator, Meter, Depot, Near, Counter, Number, Allow, Rand as GiveRand, Join, Leave, Send}
+use Rattle.line_events.specs.declared.event.Event.TheVariants.{Coordinator, Meter, Depot, Near, Counter, Number, Allow, RandomOctets as GiveRand, Join, Leave}
+use Rattle.line_events.specs.declared.event.Event.TheVariants.{Send}
 use Rattle.line_events.specs.declared.event.Event.TheVariants.{Deliver, Inject, Lose, Break, Tick, Restart, Cut, Rekey, Challenge, Activate, Kick, Show}
 use Rattle.line_events.specs.declared.event.Event.TheVariants.{Bcast, Scan, Choose, Path}
 use Rattle.line_script.specs.declared.kind.EventKind.{EventKind}
 use Rattle.line_script.specs.declared.kind.EventKind.TheVariants as kinds
 use Rattle.line_script.specs.Kinds.{kind_word}
 use Rattle.line_script.specs.Words.{◌>>=◌, Field, field, keeps_new}
-use Rattle.line_script.specs.Readings.{coordinator_of, meter_of, depot_of, near_of, counter_of, number_of, allow_of, rand_of, join_of, leave_of, send_of}
-use Rattle.line_script.specs.Readings.{deliver_of, inject_of, lose_of, break_of, tick_of, restart_of, cut_of, rekey_of, challenge_of, activate_of, kick_of}
-use Rattle.line_script.specs.Readings.{show_of, bcast_of, scan_of, choose_of, path_of, event_by}
+use Rattle.line_script.specs.LineReader.{coordinator_of, meter_of, depot_of, near_of, counter_of, number_of, allow_of, rand_of, join_of, leave_of, send_of}
+use Rattle.line_script.specs.LineReader.{deliver_of, inject_of, lose_of, break_of, tick_of, restart_of, cut_of, rekey_of, challenge_of, activate_of, kick_of}
+use Rattle.line_script.specs.LineReader.{show_of, bcast_of, scan_of, choose_of, path_of, event_by}
 use Rattle.line_script.specs.Lines.{kept_word, line_of, spaced}
-use Rattle.script_laws.specs.Spellings.{lower_word, lower_line}
+use Rattle.script_laws.specs.LowerCase.{lower_word, lower_line}
 use Rattle.script_laws.proofs.Letters.{same_if}
 use Rattle.script_laws.proofs.Words.{IsReader, IsSpelled, IsSplit, field_splits, if_then, last_same, last_word, lower_field, lower_fields, not_hex, same_word}
 use Rattle.script_laws.proofs.Numbers.{number_reader, within_reader, cost_reader}
@@ -123,7 +124,7 @@ by_kind kinds.Near rest = three kinds.Near rest number_reader number_reader cost
 by_kind kinds.Counter rest = two kinds.Counter rest number_reader number_reader Counter (λ a b. refl)
 by_kind kinds.Number rest = two kinds.Number rest number_reader (within_reader 1 65535) Number (λ a b. refl)
 by_kind kinds.Allow rest = one kinds.Allow rest number_reader Allow (λ a. refl)
-by_kind kinds.Rand rest = two kinds.Rand rest number_reader sixteen_reader (λ node value. GiveRand node (record { 0 = value })) (λ a b. refl)
+by_kind kinds.RandomOctets rest = two kinds.RandomOctets rest number_reader sixteen_reader (λ node value. GiveRand node (record { 0 = value })) (λ a b. refl)
 by_kind kinds.Join rest = two kinds.Join rest number_reader number_reader Join (λ a b. refl)
 by_kind kinds.Leave rest = one kinds.Leave rest number_reader Leave (λ a. refl)
 by_kind kinds.Send rest = three kinds.Send rest number_reader number_reader hex_reader Send (λ a b c. refl)

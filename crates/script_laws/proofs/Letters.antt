@@ -4,7 +4,7 @@ use Rattle.std.specs.Prelude.{if◌then◌else◌}
 use Rattle.std.specs.Char.{to_ascii_lowercase}
 use Rattle.std.proofs.lemmas.Bool.{cases_lt, lt-ltb, le-ltb, ne_eqb}
 use Rattle.line_script.proofs.WordsRead.{IsWord}
-use Rattle.script_laws.specs.Spellings.{lower_word}
+use Rattle.script_laws.specs.LowerCase.{lower_word}
 
 -- a letter in upper case, with the octet that it is in lower case
 abbrev pub IsUpper : ℕ → Type 0

@@ -15,7 +15,7 @@ use Rattle.std.proofs.lemmas.Str.{digit_value_digit}
 use Rattle.std.proofs.lemmas.Str.Parse.{digit_from_value, numerals_by_value, tells_digits}
 use Rattle.line_script.specs.Words.{◌>>=◌, digit_more, number_from, number, number_within, cost}
 use Rattle.line_script.proofs.WordsRead.{IsWord}
-use Rattle.script_laws.specs.Spellings.{lower_word}
+use Rattle.script_laws.specs.LowerCase.{lower_word}
 use Rattle.script_laws.proofs.Letters.{in_lower_case, same_if, same_sign}
 use Rattle.script_laws.proofs.Words.{IsReader, IsSpelled, if_then}
 

@@ -9,11 +9,11 @@ use Rattle.std.proofs.lemmas.List.Splits.{slice_split-cons_yes, slice_split-cons
 use Rattle.line_events.specs.declared.event.Event.{Event}
 use Rattle.line_script.specs.declared.reading.Reading.{Reading}
 use Rattle.line_script.specs.declared.reading.Reading.TheVariants.{Quiet, NoForm, Reads}
-use Rattle.line_script.specs.Readings.{event_of, reading, reads}
+use Rattle.line_script.specs.LineReader.{event_of, reading, reads}
 use Rattle.line_script.specs.Lines.{IsInRange}
 use Rattle.line_script.proofs.Ranges.{reading_fits}
 use Rattle.line_script.proofs.RoundTrip.{read_back}
-use Rattle.script_laws.specs.Spellings.{lower_word, lower_line}
+use Rattle.script_laws.specs.LowerCase.{lower_word, lower_line}
 use Rattle.script_laws.specs.Laws.{CaseIsNotRead, OnlyLinesAreRead, OneLineForAnEvent}
 use Rattle.script_laws.proofs.Letters.{same_if, same_sign}
 use Rattle.script_laws.proofs.Words.{joined, space}

@@ -14,7 +14,7 @@ use Rattle.hex.specs.Hex.{is_hex_digit}
 use Rattle.line_script.specs.Words.{◌>>=◌, Field, field}
 use Rattle.line_script.specs.Lines.{spaced}
 use Rattle.line_script.proofs.WordsRead.{IsWord, field_read}
-use Rattle.script_laws.specs.Spellings.{lower_word, lower_line}
+use Rattle.script_laws.specs.LowerCase.{lower_word, lower_line}
 use Rattle.script_laws.proofs.Letters.{lower_is_word}
 
 -- # Optional values

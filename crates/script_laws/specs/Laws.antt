@@ -3,9 +3,9 @@ use Rattle.std.specs.Prelude.{◌≡◌, ◌↔◌, ℕ, List}
 use Rattle.line_events.specs.declared.event.Event.{Event}
 use Rattle.line_events.specs.Events.{IsEvent}
 use Rattle.line_script.specs.declared.reading.Reading.TheVariants.{Reads}
-use Rattle.line_script.specs.Readings.{reading}
+use Rattle.line_script.specs.LineReader.{reading}
 use Rattle.line_script.specs.Lines.{line_of}
-use Rattle.script_laws.specs.Spellings.{lower_line}
+use Rattle.script_laws.specs.LowerCase.{lower_line}
 
 -- a line is read as an event exactly where the event is in its ranges and the line is the event's, but for the case of hexadecimal digits
 abbrev pub OnlyLinesAreRead : Type 0

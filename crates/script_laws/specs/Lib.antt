@@ -1,2 +1,2 @@
-pub mod Spellings
+pub mod LowerCase
 pub mod Laws

@@ -6,13 +6,13 @@ use Rattle.script_lines.specs.Lines.{Content, Text, Long, TooMuch, Line, content
 use Rattle.script_lines.specs.Next.{lines_with}
 use Rattle.script_lines.specs.Outcomes.{Turn, Skips, Takes, Stops, Outcome, outcome_turn, outcome_from, BreaksOff}
 use Rattle.script_lines.specs.Clauses.{turn_text, GoesOn, IsStop}
-use Rattle.script_lines.proofs.Taking.{line_of, fed, grown, too_much, open_end}
+use Rattle.script_lines.proofs.TakenOctets.{line_of, fed, grown, too_much, open_end}
 use Rattle.script_lines.proofs.Turns.{goes_no_stop, turn_front, no_lines_yet, front_of_front, front_behind}
 
 front_of_nothing : (text : List ℕ) → IsPrefixOf [] text
 front_of_nothing text = record { rest = text; whole = refl }
 
--- what one octet more puts in front of a report is in front of where it breaks off
+-- what one octet more puts before a report is before where it breaks off
 moved : (ahead : ℕ) (c : ℕ) (text : List ℕ) (all rest : List ℕ → Bool → List ℕ)
     → ((octets : List ℕ) (e : Bool) → all (c ∷ octets) e ≡ text ++ rest octets e) → (cs v : List ℕ) (e : Bool) → BreaksOff ahead rest cs v e
     → BreaksOff ahead all (c ∷ cs) (text ++ v) e

@@ -1,7 +1,7 @@
 mod BreakingOff
 mod Follow
 mod LineLaws
-mod Taking
+mod TakenOctets
 pub mod Turned
 mod Turns
 mod Windows

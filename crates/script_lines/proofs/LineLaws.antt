@@ -3,7 +3,7 @@ use Rattle.std.proofs.Common.{◌≡◌, inl, inr, ℕ, ◌+◌, ◌≤◌, Bool
 use Rattle.std.proofs.lemmas.List.{append-nil}
 use Rattle.std.proofs.lemmas.Bool.{cases_lt, lt-ltb, le-ltb}
 use Rattle.script_lines.specs.Lines.{Content, Line, content_of, lines_from, lines, NoFeed, NoFeeds, script, rest_line}
-use Rattle.script_lines.proofs.Taking.{fed, stretched}
+use Rattle.script_lines.proofs.TakenOctets.{fed, stretched}
 
 contents : List Line → List Content
 contents ls = map (λ (l : Line). l.content) ls

@@ -16,7 +16,7 @@ pub record Line : Type 0 where
 abbrev pub content_of : List ℕ → Content
 content_of octets = if nat_le (length octets) 4096 then Text octets else Long
 
--- The lines that begin with `part`, after so many octets and lines. A line feed ends a line, and so does the end of
+-- The lines that begin with `part`, after this many octets and lines. A line feed ends a line, and so does the end of
 -- input where the line has an octet. The octet that is too much ends the last line.
 unfoldable pub lines_from : ℕ → ℕ → List ℕ → List ℕ → Bool → List Line
 lines_from seen count part [] ended =

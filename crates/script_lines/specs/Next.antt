@@ -11,12 +11,12 @@ use Rattle.script_lines.specs.declared.input.Found.{Found}
 use Rattle.script_lines.specs.declared.input.Found.TheVariants.{Feed, PastRoom, Neither}
 use Rattle.script_lines.specs.Lines.{NoFeed, Content, Text, Long, TooMuch, Line, lines_from}
 
--- A line that was read to its end, of which so many octets stand in the window, and maybe more before them.
+-- A line that was read to its end, of which this many octets stand in the window, and maybe more before them.
 abbrev pub kind_by : Bool → ℕ → LineKind
 kind_by true count = kinds.Long
 kind_by false count = if nat_le count 4096 then kinds.Text else kinds.Long
 
--- the kind of the line that the end of input ends, if it has an octet: what was used of it since `begin`, and so many octets ahead
+-- the kind of the line that the end of input ends, if it has an octet: what was used of it since `begin`, and this many octets ahead
 abbrev pub last_kind : ℕ → ℕ → Bool → ℕ → Option LineKind
 last_kind begin seen long count = if nat_lt begin (seen + count) then Some (kind_by long count) else None
 
@@ -43,7 +43,7 @@ abbrev pub count_read : Result ℕ Failed → ℕ
 count_read (Ok n) = n
 count_read (Err e) = 0
 
--- So many octets came after those ahead.
+-- This many octets came after those ahead.
 pub record Given (source0 source1 : SourceState) (ahead0 ahead1 : List ℕ) (count : ℕ) : Type 0 where
   pub octets : List ℕ
   pub gave : Consumes source0.left source1.left octets
@@ -78,12 +78,12 @@ Shed seen0 seen1 ahead0 ahead1 long0 long1 =
     ((length ahead0 ≤ 4096) × (seen1 ≡ seen0) × (ahead1 ≡ ahead0) × (long1 ≡ long0))
     ⊎ ((4096 < length ahead0) × (seen1 ≡ seen0 + length ahead0) × (ahead1 ≡ []) × (long1 ≡ true))
 
--- Where the first line feed stands among so many octets, if there is one.
+-- Where the first line feed stands among this many octets, if there is one.
 abbrev pub FeedIs : List ℕ → ℕ → Option ℕ → Type 0
 FeedIs octets stop (Some at) = (at < stop) × (slice_index octets at ≡ 10) × NoFeed (take at octets)
 FeedIs octets stop None = NoFeed (take stop octets)
 
--- What stands first among octets of which so many may be used: a line feed after this many others, an octet that is too much, or neither.
+-- What stands first among octets of which this many may be used: a line feed after this many others, an octet that is too much, or neither.
 abbrev pub FoundIs : List ℕ → ℕ → Found → Type 0
 FoundIs octets room (Feed at) =
     (at < room) × (at < length octets) × (slice_index octets at ≡ 10) × NoFeed (take at octets)

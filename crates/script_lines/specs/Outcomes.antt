@@ -37,7 +37,7 @@ outcome_from turn end_text m (line ∷ lines) ended =
 abbrev pub outcome : {M : Type 0} → (M → ℕ → Content → Turn M) → (M → List ℕ) → M → List ℕ → Bool → Outcome M
 outcome turn end_text m octets ended = outcome_from turn end_text m (lines octets ended) ended
 
--- a line is bad, and at most so many octets stand after it
+-- a line is bad, and at most this many octets stand after it
 abbrev pub StopsShortOf : {M : Type 0} → ℕ → Ending M → Type 0
 StopsShortOf ahead (Bad number behind) = length behind ≤ ahead
 StopsShortOf ahead (Ended last) = ⊥
@@ -46,7 +46,7 @@ StopsShortOf ahead Open = ⊥
 -- ---- where a report breaks off, if it could not be written whole
 
 -- Of the octets b that were read, w was written. It breaks off in the report of the line that the octet `last` ends: the reports of
--- all lines before it were written whole, and a prefix of its own. At most so many octets were read after it. Where the input has
+-- all lines before it were written whole, and a prefix of its own. At most this many octets were read after it. Where the input has
 -- not ended, a report is that of the whole lines.
 pub record BreaksOffInLine (ahead : ℕ) (report : List ℕ → Bool → List ℕ) (b w : List ℕ) : Type 0 where
   pub before : List ℕ

@@ -10,7 +10,7 @@ use memchr::memchr;
 use plc_base::{Failed, Source};
 use std::alloc::{AllocError, Global};
 
-/// A script has at most so many octets.
+/// A script has at most this many octets.
 pub const MAX_INPUT: u32 = 67_108_864;
 
 /// What was found: a line, one that is too long, or the octet that is too much.
@@ -27,7 +27,7 @@ pub enum LineKind {
 /// What stands first among the octets ahead.
 #[derive(Clone, Copy)]
 pub enum Found {
-    /// A line feed after so many other octets.
+    /// A line feed after this many other octets.
     Feed(usize),
     /// No line feed among those that may be used, and more octets.
     PastRoom,
@@ -64,7 +64,7 @@ fn look(window: &Window, clear: usize, room: usize) -> Found
     }
 }
 
-/// The kind of a line of which so many octets stand in the window, and more before them where it is `long`.
+/// The kind of a line of which this many octets stand in the window, and more before them where it is `long`.
 fn kind_by(long: bool, count: usize) -> LineKind
     ensures { result ≡ kind_by long count }
 {
@@ -135,7 +135,7 @@ impl Input {
         }
     }
 
-    /// Takes the line that a line feed after so many octets ends.
+    /// Takes the line that a line feed after this many octets ends.
     fn take_line(&mut self, at: usize, long: bool) -> LineKind
         requires there { at < length self.old.window.ahead }
         requires room { self.old.seen + at < 67108864 }
@@ -151,7 +151,7 @@ impl Input {
         kind_by(long, at)
     }
 
-    /// Takes the octet that is too much, after so many others.
+    /// Takes the octet that is too much, after this many others.
     fn take_too_much(&mut self, room: usize) -> LineKind
         requires there { room < length self.old.window.ahead }
         requires last { self.old.seen + room ≡ 67108864 }

@@ -7,10 +7,10 @@ use plc_base::{Failed, Source};
 use std::alloc::{AllocError, Global};
 use std::marker::Model;
 
-/// At most so many octets are read ahead.
+/// At most this many octets are read ahead.
 pub const WINDOW: usize = 8192;
 
-/// A line has at most so many octets.
+/// A line has at most this many octets.
 pub const MAX_LINE: usize = 4096;
 
 /// The octets that were read and are not used yet, at most 8,192, and the line that was found last.

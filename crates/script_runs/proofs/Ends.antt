@@ -3,7 +3,7 @@ use Rattle.std.proofs.Common.{◌≡◌, ℕ, List, [], ◌∷◌, ◌++◌, Som
 use Rattle.script_lines.specs.Lines.{Line}
 use Rattle.line_rules.specs.Worlds.{World}
 use Rattle.line_rules.specs.Runs.{Entry, last_world}
-use Rattle.script_runs.specs.Takings.{Taking, Skipped, Taken, Refused, taking, entries_by, entries_from, BadLine, bad_by, first_bad_from}
+use Rattle.script_runs.specs.TakenLines.{Taking, Skipped, Taken, Refused, taking, entries_by, entries_from, BadLine, bad_by, first_bad_from}
 use Rattle.script_runs.specs.Laws.{IsFirstBad, left_by}
 
 not_none : (bad : BadLine) → Some bad ≡ None → ⊥

@@ -1,3 +1,3 @@
 pub mod Runs
 pub mod Ends
-pub mod Skipping
+pub mod QuietLines

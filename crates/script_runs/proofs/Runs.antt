@@ -16,9 +16,9 @@ use Rattle.line_script.specs.declared.reading.Reading.{Reading}
 use Rattle.line_script.specs.declared.reading.Reading.TheVariants.{Quiet, NoForm, Reads}
 use Rattle.line_script.specs.declared.report.Reason.TheVariants as reasons
 use Rattle.line_script.specs.Lines.{IsInRange}
-use Rattle.line_script.specs.Readings.{reading}
+use Rattle.line_script.specs.LineReader.{reading}
 use Rattle.line_script.proofs.Ranges.{reading_fits}
-use Rattle.script_runs.specs.Takings.{Taking, Skipped, Taken, Refused, step_taking, reading_taking, taking, entries_by, entries_from, entries}
+use Rattle.script_runs.specs.TakenLines.{Taking, Skipped, Taken, Refused, step_taking, reading_taking, taking, entries_by, entries_from, entries}
 
 -- what a taking says of the run that goes on
 abbrev GoesOn : World → Taking → Type 0

@@ -5,8 +5,8 @@ use Rattle.node_rules.specs.Ciphers.{network}
 use Rattle.line_rules.specs.Worlds.{World}
 use Rattle.line_rules.specs.Runs.{IsLineRun, last_world}
 use Rattle.line_script.specs.declared.reading.Reading.TheVariants.{Quiet}
-use Rattle.line_script.specs.Readings.{reading}
-use Rattle.script_runs.specs.Takings.{Skipped, Refused, taking, entries_from, entries, BadLine, first_bad_from}
+use Rattle.line_script.specs.LineReader.{reading}
+use Rattle.script_runs.specs.TakenLines.{Skipped, Refused, taking, entries_from, entries, BadLine, first_bad_from}
 
 -- the world that the entries of lines leave
 abbrev pub left_by : World → List Line → World

@@ -10,9 +10,9 @@ use Rattle.plc_base.proofs.EarlierEnds.{earlier, all_last, all_after}
 use Rattle.block_pool.specs.Pool.{PoolState}
 use Rattle.mesh_header.specs.Pieces.{Placed}
 use Rattle.fragment_buffers.specs.Reassembly.{Reassembly}
-use Rattle.fragment_buffers.specs.Taking.{taken, unexpired}
+use Rattle.fragment_buffers.specs.PieceIntake.{taken, unexpired}
 use Rattle.fragment_buffers.specs.Entries.{Entry, reassemblies_in, reassembly_in}
-use Rattle.fragment_buffers.specs.Waiting.{Body, still_waiting}
+use Rattle.fragment_buffers.specs.WaitingBodies.{Body, still_waiting}
 use Rattle.fragment_buffers.specs.FirstEnd as pieces
 use Rattle.fragment_buffers.proofs.FirstEnds.{none_expires, still_sooner, still_taken, still_unexpired}
 use Rattle.station_queues.specs.Bodies.{Held, Slot}
@@ -99,7 +99,7 @@ pub none_ends : (h : Held) (time now : ℕ) → now < time → IsStill time h
 none_ends h time now lt s =
     λ i. record { reassemblies = none_expires h.reassemblies time now lt s.gathered i; waiting = all_wait h.waiting time now lt s.waiting i }
 
--- what began within so many seconds ends after now
+-- what began within this many seconds ends after now
 pub ends_later : (seconds now time since : ℕ) → now < time → is_within seconds now since ≡ true → now < earlier_end seconds time since
 ends_later seconds now time since after h = let within = ltb-true now (since + seconds) h in omega (arith, after, within)
 

@@ -10,7 +10,7 @@ use Rattle.std.proofs.lemmas.List.Elements.{filter-append, All-nil, All-cons, Al
 use Rattle.block_pool.specs.Pool.{PoolState, chain_octets}
 use Rattle.fragment_buffers.specs.Entries.{Entry, reassemblies_in}
 use Rattle.fragment_buffers.specs.Loads.{IsShort, load_of, units_in}
-use Rattle.fragment_buffers.specs.Waiting.{Body, waits_for, units_by, leaving, pending_in}
+use Rattle.fragment_buffers.specs.WaitingBodies.{Body, waits_for, units_by, leaving, pending_in}
 use Rattle.fragment_buffers.proofs.Sizes.{length-all_go, length-units_of, leaving_units, few_pending}
 use Rattle.station_queues.specs.Bodies.{Held, Slot}
 use Rattle.station_queues.specs.BodiesInPool.{IsHeld, IsSound, body_in, bodies_in}
@@ -30,7 +30,7 @@ leaving-suc own dest hop ws k lt = ap (λ n. leaving own dest hop (take n ws)) (
     one-more : (n : ℕ) → n + 1 ≡ suc n
     one-more n = omega arith
 
--- so many are not more than all
+-- this many are not more than all
 pub leaving-few : (own dest hop : ℕ) (ws : List Body) (k : ℕ) → length (leaving own dest hop (take k ws)) ≤ length (leaving own dest hop ws)
 leaving-few own dest hop ws k =
     let all : leaving own dest hop ws ≡ leaving own dest hop (take k ws)

@@ -16,7 +16,7 @@ use Rattle.plc_base.specs.Grant.{Granted}
 use Rattle.mac_frames.specs.declared.head.MacHead.{MacHead}
 use Rattle.mac_frames.specs.declared.head.MacHead.TheVariants as heads
 use Rattle.mac_frames.specs.Grammar.{header, header_then}
-use Rattle.mac_frames.specs.Sealing.{nonce_of}
+use Rattle.mac_frames.specs.SealedFrames.{nonce_of}
 use Rattle.mac_frames.specs.Sent.{to_all}
 use Rattle.mesh_header.specs.declared.unit.Unit.{Unit as MeshUnit}
 use Rattle.mesh_header.specs.declared.unit.Mesh.{Mesh}

@@ -1,6 +1,6 @@
 pub mod Sound
 pub mod Sizes
-pub mod Dropping
+pub mod DroppedItems
 pub mod Letters
 pub mod Leaves
 pub mod FirstEnds

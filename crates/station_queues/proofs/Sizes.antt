@@ -6,8 +6,8 @@ use Rattle.std.proofs.lemmas.List.Elements.{All-nil, All-cons, All-head, All-tai
 use Rattle.block_pool.specs.Pool.{PoolState, chain_octets}
 use Rattle.fragment_buffers.specs.Entries.{Entry, reassemblies_in}
 use Rattle.fragment_buffers.specs.Loads.{load_of}
-use Rattle.fragment_buffers.specs.Waiting.{Body}
-use Rattle.fragment_buffers.proofs.Keeping.{blocks_gathered}
+use Rattle.fragment_buffers.specs.WaitingBodies.{Body}
+use Rattle.fragment_buffers.proofs.PoolEntries.{blocks_gathered}
 use Rattle.station_queues.specs.Bodies.{Slot}
 use Rattle.station_queues.specs.BodiesInPool.{IsHeld, IsSound, body_in, bodies_in}
 use Rattle.station_queues.specs.Sizes.{IsLoadSized, AreSized}

@@ -11,13 +11,13 @@ use Rattle.std.specs.List.{All, remove, take-map, drop-map, list_any}
 use Rattle.std.specs.Prelude.{◌==◌, ◌||◌, if◌then◌else◌}
 use Rattle.fragment_buffers.specs.Reassembly.{Reassembly}
 use Rattle.block_pool.specs.Pool.{PoolState, IsChain, chain_octets}
-use Rattle.fragment_buffers.specs.Taking.{blocks}
+use Rattle.fragment_buffers.specs.PieceIntake.{blocks}
 use Rattle.fragment_buffers.specs.Entries.{Entry, Keeps, Moves, IsOther, IsBounded, entry_at, reassemblies_in}
 use Rattle.fragment_buffers.proofs.Octets.{map_same}
-use Rattle.fragment_buffers.proofs.Writing.{Stays}
-use Rattle.fragment_buffers.proofs.Keeping.{kept_chain, gathered_same}
+use Rattle.fragment_buffers.proofs.PieceWrites.{Stays}
+use Rattle.fragment_buffers.proofs.PoolEntries.{kept_chain, gathered_same}
 use Rattle.fragment_buffers.specs.Loads.{load_octets}
-use Rattle.fragment_buffers.specs.Waiting.{Body, waiting_blocks, no_room_in, is_awaited_in}
+use Rattle.fragment_buffers.specs.WaitingBodies.{Body, waiting_blocks, no_room_in, is_awaited_in}
 use Rattle.fragment_buffers.specs.Loads.{load_of}
 use Rattle.station_queues.specs.Bodies.{Held, Slot}
 use Rattle.station_queues.specs.BodiesInPool.{IsHeld, IsSound, body_in, bodies_in, blocks_of}
@@ -201,7 +201,7 @@ blocks_same p es (w ∷ ws) h =
     ∙ (λ i. blocks ((load_long p w ∙ held.long) i) + blocks_same p es ws (All-tail (IsHeld p es) w ws h) i)
     ∙ sym (sum_by-cons (λ (v : Slot). blocks v.size) w ws)
 
--- where there is room for so many octets, there is
+-- where there is room for this many octets, there is
 pub room_is : (p : PoolState) (es : List Entry) (ws : List Slot) (h : Held) (octets : ℕ)
     → record { reassemblies = reassemblies_in p es; waiting = bodies_in p ws } ≡ h
     → All (IsHeld p es) ws

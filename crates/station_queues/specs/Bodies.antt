@@ -2,7 +2,7 @@
 use Rattle.std.specs.Prelude.{ℕ, List, Option, refl}
 use Rattle.std.specs.Coded.{Coded, code_by, coded×, coded_ℕ, coded_list, coded_option}
 use Rattle.fragment_buffers.specs.Reassembly.{Reassembly, reassembly_code}
-use Rattle.fragment_buffers.specs.Waiting.{Body, body_code}
+use Rattle.fragment_buffers.specs.WaitingBodies.{Body, body_code}
 
 -- The reassemblies and the bodies that wait, each in order.
 pub record Held : Type 0 where

@@ -3,10 +3,10 @@ use Rattle.std.specs.Prelude.{◌≡◌, ◌≢◌, ℕ, ◌+◌, ◌<◌, ◌�
 use Rattle.std.specs.List.{All, AllPairs, sum_by}
 use Rattle.block_pool.specs.declared.pool.Chain.{Chain}
 use Rattle.block_pool.specs.Pool.{PoolState, chain_octets}
-use Rattle.fragment_buffers.specs.Taking.{blocks}
+use Rattle.fragment_buffers.specs.PieceIntake.{blocks}
 use Rattle.fragment_buffers.specs.Entries.{Entry, Keeps, IsOther, IsBounded, blocks_used, reassemblies_in}
 use Rattle.fragment_buffers.specs.Loads.{load_of}
-use Rattle.fragment_buffers.specs.Waiting.{Body}
+use Rattle.fragment_buffers.specs.WaitingBodies.{Body}
 use Rattle.station_queues.specs.Bodies.{Held, Slot}
 use Rattle.station_queues.specs.FirstEnd.{IsStill}
 use Rattle.station_queues.specs.declared.bodies.Waiting.TheInside as waits

@@ -11,7 +11,7 @@ use Rattle.mesh_header.specs.declared.unit.Unit.TheVariants.{Part}
 use Rattle.mesh_header.specs.Grammar.{spelling}
 use Rattle.fragment_buffers.specs.Fragmentation.{pieces_cut}
 use Rattle.fragment_buffers.specs.Loads.{UnsealedUnit, all_go, own_mesh, Command}
-use Rattle.fragment_buffers.specs.Waiting.{Body}
+use Rattle.fragment_buffers.specs.WaitingBodies.{Body}
 
 -- the frame of a unit with this head under a key
 abbrev pub frame_with : MacHead → Key → UnsealedUnit → OutFrame
@@ -31,7 +31,7 @@ frames_of g key first (o ∷ rest) = unit_frame g key first o ∷ frames_of g ke
 abbrev pub with_frames : List OutFrame → Out → Out
 with_frames frames out = record out { frames = frames }
 
--- the frames of so many pieces of a datagram, the first ones
+-- the frames of this many pieces of a datagram, the first ones
 abbrev pub pieces_sent : Granted → Key → (first to hop note : ℕ) → List ℕ → (tag count : ℕ) → List OutFrame
 pieces_sent g key first to hop note datagram tag count =
     frames_of g key first

@@ -2,8 +2,8 @@
 use Rattle.std.specs.Prelude.{◌≤◌, length}
 use Rattle.std.specs.List.{All}
 use Rattle.fragment_buffers.specs.Loads.{Load, Datagram, Command}
-use Rattle.fragment_buffers.specs.Taking.{blocks_held}
-use Rattle.fragment_buffers.specs.Waiting.{Body, waiting_blocks}
+use Rattle.fragment_buffers.specs.PieceIntake.{blocks_held}
+use Rattle.fragment_buffers.specs.WaitingBodies.{Body, waiting_blocks}
 use Rattle.station_queues.specs.Bodies.{Held}
 
 -- a datagram has 1 to 1,280 octets, a command 1 to 374

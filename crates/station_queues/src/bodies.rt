@@ -5,12 +5,12 @@ ghost use Rattle.std.specs.List.{remove, list_any, filter};
 ghost use Rattle.std.specs.FinMap as map;
 ghost use Rattle.block_pool.specs.Pool.{IsChain, chain_octets};
 ghost use Rattle.fragment_buffers.specs.Answers.{answer_of, octets_of};
-ghost use Rattle.fragment_buffers.specs.Taking.{blocks, taken};
-ghost use Rattle.fragment_buffers.specs.Taking.{unexpired};
+ghost use Rattle.fragment_buffers.specs.PieceIntake.{blocks, taken};
+ghost use Rattle.fragment_buffers.specs.PieceIntake.{unexpired};
 ghost use Rattle.fragment_buffers.specs.declared.times.TheConstants.{WAITING_TIME};
 ghost use Rattle.plc_base.specs.Times.{is_within};
 ghost use Rattle.fragment_buffers.specs.Loads.{load_of, units_in};
-ghost use Rattle.fragment_buffers.specs.Waiting.{waits_for, is_awaited_in, waiting_blocks, no_room_in, still_waiting, units_by, leaving};
+ghost use Rattle.fragment_buffers.specs.WaitingBodies.{waits_for, is_awaited_in, waiting_blocks, no_room_in, still_waiting, units_by, leaving};
 ghost use Rattle.station_queues.specs.Sizes.{AreSized};
 ghost use Rattle.station_queues.specs.FirstEnd.{end_by, IsStill};
 ghost use Rattle.station_queues.specs.FirstEnd as ends;
@@ -192,7 +192,7 @@ impl Bodies {
         self.blocks
     }
 
-    /// Whether a body of so many octets more can't wait: 8 bodies wait, or their blocks would pass 80.
+    /// Whether a body of this many octets more can't wait: 8 bodies wait, or their blocks would pass 80.
     pub fn no_room(&self, octets: usize) -> bool
         requires { octets ≤ LONGEST_DATAGRAM }
         ensures { result ≡ no_room_in self.now.waiting octets }

@@ -15,7 +15,7 @@ use Rattle.store_tables.specs.Marks.{Table, layout, slots_of, at_rest, IsCovered
 use Rattle.store_tables.specs.AdmittedNumbers.{Admitted, AllEarlier, IsNew, EachOnce}
 use Rattle.store_tables.proofs.SlotTables.{slice_get-set, slice_get-set_other, slice_get-push, slice_get-push_other, slice_get-map, found, apart, free_new}
 use Rattle.store_tables.proofs.SlotTables.{free_found, IsTable-set, IsTable-push, stored_set, stored_push, stored_rest, stored_map, set_either, push_either}
-use Rattle.store_tables.proofs.Opening.{opened_kept, opened_reads, reopened}
+use Rattle.store_tables.proofs.OpenedTables.{opened_kept, opened_reads, reopened}
 use Rattle.store_tables.proofs.MarkEntries.{mark_in-octets_of, room_new, kept_low, kept_high, write_low, write_high}
 
 module _ (first count : ℕ) where

@@ -10,6 +10,6 @@ pub mod SlotOrders
 pub mod MarkEntries
 pub mod AdmittedNumbers
 pub mod LeadingMarks
-pub mod Opening
+pub mod OpenedTables
 pub mod LookUps
-pub mod Finding
+pub mod FoundEntries

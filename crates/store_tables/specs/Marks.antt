@@ -19,7 +19,7 @@ slots_from first =
     then 0x0140 - first
     else (if nat_le 0x0300 first && nat_le first 0x0320 then 0x0320 - first else 0)
 
--- how many marks a table of so many slots has
+-- how many marks a table of this many slots has
 abbrev pub slots_of : ℕ → ℕ → ℕ
 slots_of first count = min count (slots_from first)
 
@@ -33,7 +33,7 @@ abbrev pub where_room : {F A : Type 0} → Result (Unit {0}) F → A → A → A
 where_room (Ok u) a b = a
 where_room (Err fault) a b = b
 
--- The tables whose marks stand from a first slot on, in so many slots.
+-- The tables whose marks stand from a first slot on, in this many slots.
 module _ (first count : ℕ) where
   -- the entries in the order of their slots
   abbrev pub Table : Type 0

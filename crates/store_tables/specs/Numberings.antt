@@ -25,17 +25,17 @@ counting_code =
 abbrev pub counting_at : ℕ → Counting
 counting_at limit = record { limit = limit; next = limit }
 
--- whether so many numbers pass the limit
+-- whether this many numbers pass the limit
 abbrev pub passes : Counting → ℕ → Bool
 passes counting count = nat_lt counting.limit (counting.next + count)
 
--- the greatest number of so many octets
+-- the greatest number of this many octets
 abbrev pub greatest : (width : ℕ) → ℕ
 greatest width = 256 ^ width - 1
 
 -- # The slot of the limit
 
--- where the limit is stored: so many octets at the slot; the first limit, where none is there, is the least one
+-- where the limit is stored: this many octets at the slot; the first limit, where none is there, is the least one
 abbrev pub limit_at : (slot width least : ℕ) → NumberSlot
 limit_at slot width least = record { slot = slot; width = width; first = least; least = least }
 
@@ -86,18 +86,18 @@ module _ (at : NumberSlot) (stride : ℕ) where
   abbrev pub raised : ℕ → ℕ
   raised limit = min (limit + stride) (greatest at.width)
 
-  -- what is stored before so many numbers are given out
+  -- what is stored before this many numbers are given out
   abbrev pub reserve_write : Counting → ℕ → Option Write
   reserve_write counting count = if passes counting count then limit_write at (raised counting.limit) else None
 
-  -- the numbering after so many were given out
+  -- the numbering after this many were given out
   abbrev pub reserved : Counting → ℕ → Counting
   reserved counting count = record {
     limit = if passes counting count then raised counting.limit else counting.limit;
     next = counting.next + count;
   }
 
-  -- Whatever becomes of the put for so many numbers, some numbering is what the records give.
+  -- Whatever becomes of the put for this many numbers, some numbering is what the records give.
   abbrev pub ReservationsLead : Type 0
   ReservationsLead =
       (counting : Counting) (count : ℕ) → count ≤ stride → counting.next + count ≤ greatest at.width
@@ -105,7 +105,7 @@ module _ (at : NumberSlot) (stride : ℕ) where
 
 -- # What was given out
 
--- so many numbers from the first on, the last first
+-- this many numbers from the first on, the last first
 abbrev pub run_of : ℕ → ℕ → List ℕ
 run_of first zero = []
 run_of first (suc more) = (first + more) ∷ run_of first more

@@ -84,7 +84,7 @@ impl<const SLOT: u32, const WIDTH: usize, const LEAST: u32, const STRIDE: u32> N
         greatest(WIDTH) - self.next
     }
 
-    /// Gives out so many numbers in a row, and answers the first. Where they pass the limit, the smaller of limit + `STRIDE`
+    /// Gives out this many numbers in a row, and answers the first. Where they pass the limit, the smaller of limit + `STRIDE`
     /// and the greatest number of `WIDTH` octets is stored first.
     ///
     /// Only a failed put is an error. The numbering is then as it was, but may not be used until it is opened again.

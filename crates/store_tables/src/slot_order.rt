@@ -91,7 +91,7 @@ impl<const N: usize> SlotOrder<N> {
     }
 }
 
-// The key of the entry at a place, 0 where there is none.
+// The key of the entry at a place, 0 if there is none.
 fn key_of<E: SlotEntry>(entries: &[E], place: u16) -> u64
     ensures { result ≡ slice_index (keys_of E.layout entries.now) place }
 {

@@ -5,7 +5,7 @@ ghost use Rattle.block_pool.specs.Pool.{IsChain, chain_octets};
 use block_pool::{Chain, Pool};
 use std::test::Fail;
 
-// A chain of so many octets, which the pool must have room for.
+// A chain of this many octets, which the pool must have room for.
 fn chain_of(pool: &mut Pool, octets: u16) -> Result<Chain, Fail>
     requires { (1 ≤ octets) × (octets ≤ 1280) }
     ensures long { IfOk result (λ chain. length (chain_octets pool.new chain) ≡ octets) }

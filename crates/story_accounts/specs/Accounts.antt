@@ -4,21 +4,21 @@ use Rattle.plc_base.specs.declared.address.Eui.{Eui}
 use Rattle.node_rules.specs.declared.shown.ShownPeer.{ShownPeer}
 use Rattle.frame_details.specs.declared.detail.FlightMore.{FlightMore}
 use Rattle.line_script.specs.AnswerWords.{answer_word}
-use Rattle.line_tale.specs.declared.told.TaleEvent.{TaleEvent}
-use Rattle.line_tale.specs.declared.told.TaleFlight.{TaleFlight}
-use Rattle.line_tale.specs.declared.story.Story.{Story}
-use Rattle.line_tale.specs.declared.lot.Lot.{Lot}
-use Rattle.line_tale.specs.declared.ends.Ends.{Ends}
-use Rattle.line_tale.specs.declared.verdict.Verdict.{Verdict}
-use Rattle.line_tale.specs.declared.verdict.Verdict.TheVariants as verdicts
-use Rattle.line_tale.specs.Tales.{numbered}
-use Rattle.line_tale.specs.Verdicts.{no_ends, verdict_of}
+use Rattle.line_record.specs.declared.recorded.RecordedEvent.{RecordedEvent}
+use Rattle.line_record.specs.declared.recorded.RecordedFlight.{RecordedFlight}
+use Rattle.line_record.specs.declared.story.Story.{Story}
+use Rattle.line_record.specs.declared.course.Course.{Course}
+use Rattle.line_record.specs.declared.ends.Ends.{Ends}
+use Rattle.line_record.specs.declared.verdict.Verdict.{Verdict}
+use Rattle.line_record.specs.declared.verdict.Verdict.TheVariants as verdicts
+use Rattle.line_record.specs.RunRecords.{numbered}
+use Rattle.line_record.specs.Verdicts.{no_ends, verdict_of}
 use Rattle.story_accounts.specs.Indexes.{Index, numbers_or_none}
 
 -- Events, flights and stories stand by their numbers from 1, nodes and addresses from 0.
 pub record RunAccount : Type 0 where
-  pub events : List TaleEvent
-  pub flights : List TaleFlight
+  pub events : List RecordedEvent
+  pub flights : List RecordedFlight
   -- what the flights carry that no story goes by
   pub more : List FlightMore
   -- which flight was sealed with which counter
@@ -29,7 +29,7 @@ pub record RunAccount : Type 0 where
   -- the story of each event
   pub owners : List ℕ
   -- what became of each flight
-  pub lots : List Lot
+  pub courses : List Course
   -- the ends of each story
   pub ends : List Ends
   pub index : Index
@@ -53,7 +53,7 @@ ends_or_none (Some ends) = ends
 abbrev pub ends_at : RunAccount → ℕ → Ends
 ends_at a story = ends_or_none (numbered a.ends story)
 
-abbrev pub answer_by : Option TaleEvent → List ℕ
+abbrev pub answer_by : Option RecordedEvent → List ℕ
 answer_by None = []
 answer_by (Some e) = answer_word e.answer
 
@@ -71,7 +71,7 @@ first_of a story = first_by (numbered a.stories story)
 
 -- # Verdicts
 
-abbrev pub verdict_with : Option TaleEvent → Story → Ends → Verdict
+abbrev pub verdict_with : Option RecordedEvent → Story → Ends → Verdict
 verdict_with None story ends = verdicts.Nothing
 verdict_with (Some e) story ends = verdict_of story ends e
 

@@ -7,17 +7,17 @@ use Rattle.frame_words.specs.declared.kind.PayloadKind.{PayloadKind}
 use Rattle.frame_words.specs.declared.kind.PayloadKind.TheVariants as kinds
 use Rattle.frame_words.specs.Kinds.{kind_word}
 use Rattle.line_script.specs.AnswerWords.{answer_word}
-use Rattle.line_tale.specs.declared.told.TaleEvent.{TaleEvent}
-use Rattle.line_tale.specs.declared.told.TaleFlight.{TaleFlight}
-use Rattle.line_tale.specs.declared.lot.Lot.{Lot}
-use Rattle.line_tale.specs.declared.lot.Fate.{Fate}
-use Rattle.line_tale.specs.declared.lot.Fate.TheVariants as fates
+use Rattle.line_record.specs.declared.recorded.RecordedEvent.{RecordedEvent}
+use Rattle.line_record.specs.declared.recorded.RecordedFlight.{RecordedFlight}
+use Rattle.line_record.specs.declared.course.Course.{Course}
+use Rattle.line_record.specs.declared.course.Fate.{Fate}
+use Rattle.line_record.specs.declared.course.Fate.TheVariants as fates
 use Rattle.node_rules.specs.declared.shown.ShownPeer.{ShownPeer}
 use Rattle.frame_details.specs.declared.detail.FlightMore.{FlightMore}
-use Rattle.line_tale.specs.Counters.{flight_with}
-use Rattle.line_tale.specs.Kinds.{actor_of, takes_counter}
-use Rattle.line_tale.specs.Tales.{numbered}
-use Rattle.line_tale.specs.Verdicts.{went_on}
+use Rattle.line_record.specs.Counters.{flight_with}
+use Rattle.line_record.specs.Kinds.{actor_of, takes_counter}
+use Rattle.line_record.specs.RunRecords.{numbered}
+use Rattle.line_record.specs.Verdicts.{went_on}
 use Rattle.sentence_parts.specs.declared.part.Part.TheVariants.{Words, Number, Node, Place}
 use Rattle.sentence_parts.specs.Parts.{parts_text}
 use Rattle.sentence_parts.specs.Whos.{who_of}
@@ -30,7 +30,7 @@ two_words first second = parts_text (Words first ∷ Words second ∷ [])
 
 -- # Flights to all
 
-abbrev pub hearer_by : Option TaleEvent → ℕ → List ℕ
+abbrev pub hearer_by : Option RecordedEvent → ℕ → List ℕ
 hearer_by None event = []
 hearer_by (Some e) event =
     parts_text
@@ -64,14 +64,14 @@ is_mute fates.Missed = true
 is_mute (fates.Lost event) = true
 is_mute _ = false
 
-unfoldable pub unreached_text : ℕ → TaleFlight → Fate → List ℕ
+unfoldable pub unreached_text : ℕ → RecordedFlight → Fate → List ℕ
 unreached_text number flight fate =
     parts_text
     (Words (codes "the ") ∷ Words (what_word flight.kind) ∷ Words (codes " (flight ") ∷ Number number ∷ Words (codes " of ") ∷ Node flight.from
     ∷ Words (codes ") reached no node") ∷ Words (lost_words fate) ∷ [])
 
 -- with the nodes that heard it at these events
-unfoldable pub refused_by_all_text : RunAccount → ℕ → TaleFlight → List ℕ → List ℕ
+unfoldable pub refused_by_all_text : RunAccount → ℕ → RecordedFlight → List ℕ → List ℕ
 refused_by_all_text a number flight events =
     parts_text
     (Words (codes "the ") ∷ Words (what_word flight.kind) ∷ Words (codes " (flight ") ∷ Number number
@@ -79,13 +79,13 @@ refused_by_all_text a number flight events =
     ++ hearers_from a 0 events
 
 -- a flight to all that nobody took: the first three nodes that heard it stand for all
-abbrev pub unheard_text : RunAccount → ℕ → TaleFlight → Fate → List ℕ
+abbrev pub unheard_text : RunAccount → ℕ → RecordedFlight → Fate → List ℕ
 unheard_text a number flight fate =
     if is_mute fate then unreached_text number flight fate else refused_by_all_text a number flight (take 3 (hearings_at a.index number))
 
 -- # Flights to one node
 
-unfoldable pub way_text : RunAccount → ℕ → TaleFlight → List ℕ
+unfoldable pub way_text : RunAccount → ℕ → RecordedFlight → List ℕ
 way_text a number flight =
     parts_text
     (Words (codes "flight ") ∷ Number number ∷ Words (codes " from ") ∷ Node flight.from ∷ Words (codes " to ")
@@ -104,11 +104,11 @@ abbrev pub marks_at : RunAccount → ℕ → List ShownPeer
 marks_at a node = marks_or_none (slice_get a.marks node)
 
 -- whether a node takes the counter of a frame at an event
-abbrev pub is_taken_by : Option TaleEvent → ℕ → Bool
+abbrev pub is_taken_by : Option RecordedEvent → ℕ → Bool
 is_taken_by None node = false
 is_taken_by (Some e) node = takes_counter e.answer && (actor_of e.act == node)
 
--- the first of these events at which a node takes the counter of a frame, 0 where there is none
+-- the first of these events at which a node takes the counter of a frame, 0 if there is none
 abbrev pub taken_in : RunAccount → ℕ → List ℕ → ℕ
 taken_in a node [] = 0
 taken_in a node (event ∷ events) = if is_taken_by (numbered a.events event) node then event else taken_in a node events
@@ -149,10 +149,10 @@ would_with (Some more) to a = would_at to more a
 abbrev pub would_text : RunAccount → ℕ → Option ℕ → List ℕ
 would_text a number to = would_with (numbered a.more number) to a
 
-unfoldable pub missed_text : RunAccount → ℕ → TaleFlight → Lot → List ℕ
-missed_text a number flight lot = two_words (way_text a number flight) (missed_words lot.overheard) ++ would_text a number lot.to
+unfoldable pub missed_text : RunAccount → ℕ → RecordedFlight → Course → List ℕ
+missed_text a number flight course = two_words (way_text a number flight) (missed_words course.overheard) ++ would_text a number course.to
 
-unfoldable pub lost_text : RunAccount → ℕ → TaleFlight → ℕ → List ℕ
+unfoldable pub lost_text : RunAccount → ℕ → RecordedFlight → ℕ → List ℕ
 lost_text a number flight event =
     parts_text (Words (way_text a number flight) ∷ Words (codes " was lost (event ") ∷ Number event ∷ Words (codes ")") ∷ [])
 
@@ -171,12 +171,12 @@ taken_text number event =
     (Words (codes "the last of it, flight ") ∷ Number number ∷ Words (codes ", was taken at event ") ∷ Number event
     ∷ Words (codes "; nothing followed") ∷ [])
 
-abbrev pub single_text : Fate → RunAccount → ℕ → TaleFlight → Lot → List ℕ
-single_text fates.Missed a number flight lot = missed_text a number flight lot
-single_text (fates.Lost event) a number flight lot = lost_text a number flight event
-single_text (fates.Refused event) a number flight lot = refused_text a number event
-single_text (fates.Reported event) a number flight lot = reported_text a event
-single_text (fates.WentOn event) a number flight lot = taken_text number event
+abbrev pub single_text : Fate → RunAccount → ℕ → RecordedFlight → Course → List ℕ
+single_text fates.Missed a number flight course = missed_text a number flight course
+single_text (fates.Lost event) a number flight course = lost_text a number flight event
+single_text (fates.Refused event) a number flight course = refused_text a number event
+single_text (fates.Reported event) a number flight course = reported_text a event
+single_text (fates.WentOn event) a number flight course = taken_text number event
 
 -- # Any flight
 
@@ -184,16 +184,16 @@ abbrev pub is_to_all : FrameTarget → Bool
 is_to_all targets.All = true
 is_to_all _ = false
 
-abbrev pub found_text : RunAccount → ℕ → TaleFlight → Lot → List ℕ
-found_text a number flight lot =
-    if is_to_all flight.target && not (went_on lot.fate) then unheard_text a number flight lot.fate
-    else single_text lot.fate a number flight lot
+abbrev pub found_text : RunAccount → ℕ → RecordedFlight → Course → List ℕ
+found_text a number flight course =
+    if is_to_all flight.target && not (went_on course.fate) then unheard_text a number flight course.fate
+    else single_text course.fate a number flight course
 
-abbrev pub fate_by : Option TaleFlight → Option Lot → RunAccount → ℕ → List ℕ
-fate_by None lot a number = codes "nothing went out"
+abbrev pub fate_by : Option RecordedFlight → Option Course → RunAccount → ℕ → List ℕ
+fate_by None course a number = codes "nothing went out"
 fate_by (Some flight) None a number = codes "nothing went out"
-fate_by (Some flight) (Some lot) a number = found_text a number flight lot
+fate_by (Some flight) (Some course) a number = found_text a number flight course
 
 -- what became of a flight, by its number from 1
 unfoldable pub fate_text : RunAccount → ℕ → List ℕ
-fate_text a flight = fate_by (numbered a.flights flight) (numbered a.lots flight) a flight
+fate_text a flight = fate_by (numbered a.flights flight) (numbered a.courses flight) a flight

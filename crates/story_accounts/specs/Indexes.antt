@@ -3,14 +3,14 @@ use Rattle.std.specs.Prelude.{ℕ, ◌+◌, ◌-◌, ◌==◌, ◌&&◌, Bool, f
 use Rattle.std.specs.Prelude.{Option, None, Some, if◌then◌else◌}
 use Rattle.frame_words.specs.declared.gist.Gist.{Gist}
 use Rattle.frame_words.specs.declared.gist.Gist.TheVariants as gists
-use Rattle.line_tale.specs.declared.act.Act.{Act}
-use Rattle.line_tale.specs.declared.act.Act.TheVariants as acts
-use Rattle.line_tale.specs.declared.told.TaleEvent.{TaleEvent}
-use Rattle.line_tale.specs.declared.told.TaleFlight.{TaleFlight}
-use Rattle.line_tale.specs.declared.lot.Lot.{Lot}
-use Rattle.line_tale.specs.Lists.{changed_at}
-use Rattle.line_tale.specs.Tales.{made_by, numbered}
-use Rattle.line_tale.specs.Verdicts.{or_number, went_on}
+use Rattle.line_record.specs.declared.act.Act.{Act}
+use Rattle.line_record.specs.declared.act.Act.TheVariants as acts
+use Rattle.line_record.specs.declared.recorded.RecordedEvent.{RecordedEvent}
+use Rattle.line_record.specs.declared.recorded.RecordedFlight.{RecordedFlight}
+use Rattle.line_record.specs.declared.course.Course.{Course}
+use Rattle.line_record.specs.Lists.{changed_at}
+use Rattle.line_record.specs.RunRecords.{made_by, numbered}
+use Rattle.line_record.specs.Verdicts.{first_nonzero, went_on}
 
 -- # Lists by number
 
@@ -33,7 +33,7 @@ nothing_by count = replicate count []
 -- the first send of each story, 0 where it has none: the stories of the sends from the one after `place` on
 abbrev pub sends_from : ℕ → List ℕ → List ℕ → List ℕ
 sends_from place [] sends = sends
-sends_from place (story ∷ sent) sends = sends_from (place + 1) sent (changed_at story (λ send. or_number send (place + 1)) sends)
+sends_from place (story ∷ sent) sends = sends_from (place + 1) sent (changed_at story (λ send. first_nonzero send (place + 1)) sends)
 
 abbrev pub sends_of : ℕ → List ℕ → List ℕ
 sends_of count sent = sends_from 0 sent (replicate count 0)
@@ -41,19 +41,19 @@ sends_of count sent = sends_from 0 sent (replicate count 0)
 -- # Flights that did not go on
 
 -- whether a flight carries a datagram, or a piece of it, and did not go on
-abbrev pub is_broken : Lot → Bool
-is_broken lot = lot.bears && not (went_on lot.fate)
+abbrev pub is_broken : Course → Bool
+is_broken course = course.bears && not (went_on course.fate)
 
-abbrev pub broken_with : ℕ → Lot → List (List ℕ) → List (List ℕ)
-broken_with n lot broken = if is_broken lot then changed_at lot.story (with_number n) broken else broken
+abbrev pub broken_with : ℕ → Course → List (List ℕ) → List (List ℕ)
+broken_with n course broken = if is_broken course then changed_at course.story (with_number n) broken else broken
 
-abbrev pub broken_from : ℕ → List Lot → List (List ℕ) → List (List ℕ)
+abbrev pub broken_from : ℕ → List Course → List (List ℕ) → List (List ℕ)
 broken_from place [] broken = broken
-broken_from place (lot ∷ lots) broken = broken_from (place + 1) lots (broken_with (place + 1) lot broken)
+broken_from place (course ∷ courses) broken = broken_from (place + 1) courses (broken_with (place + 1) course broken)
 
 -- those of each story
-abbrev pub broken_of : ℕ → List Lot → List (List ℕ)
-broken_of count lots = broken_from 0 lots (nothing_by count)
+abbrev pub broken_of : ℕ → List Course → List (List ℕ)
+broken_of count courses = broken_from 0 courses (nothing_by count)
 
 -- # Route requests
 
@@ -62,26 +62,26 @@ abbrev pub begins_request : Gist → Bool
 begins_request (gists.Seeks origin sought cost) = cost == 0
 begins_request _ = false
 
-abbrev pub requests_with : ℕ → TaleFlight → List (List ℕ) → List (List ℕ)
+abbrev pub requests_with : ℕ → RecordedFlight → List (List ℕ) → List (List ℕ)
 requests_with n flight requests = if begins_request flight.gist then changed_at (flight.from + 1) (with_number n) requests else requests
 
-abbrev pub requests_from : ℕ → List TaleFlight → List (List ℕ) → List (List ℕ)
+abbrev pub requests_from : ℕ → List RecordedFlight → List (List ℕ) → List (List ℕ)
 requests_from place [] requests = requests
 requests_from place (flight ∷ flights) requests = requests_from (place + 1) flights (requests_with (place + 1) flight requests)
 
--- the requests that each of so many nodes began
-abbrev pub requests_of : ℕ → List TaleFlight → List (List ℕ)
+-- the requests that each of this many nodes began
+abbrev pub requests_of : ℕ → List RecordedFlight → List (List ℕ)
 requests_of nodes flights = requests_from 0 flights (nothing_by nodes)
 
 -- # Searches for routes
 
-abbrev pub searches_from : ℕ → List Lot → List (List ℕ) → List (List ℕ)
+abbrev pub searches_from : ℕ → List Course → List (List ℕ) → List (List ℕ)
 searches_from place [] searches = searches
-searches_from place (lot ∷ lots) searches = searches_from (place + 1) lots (changed_at lot.search (with_number (place + 1)) searches)
+searches_from place (course ∷ courses) searches = searches_from (place + 1) courses (changed_at course.search (with_number (place + 1)) searches)
 
 -- the flights of each search, by the number of the request that began it
-abbrev pub searches_of : List Lot → List (List ℕ)
-searches_of lots = searches_from 0 lots (nothing_by (length lots))
+abbrev pub searches_of : List Course → List (List ℕ)
+searches_of courses = searches_from 0 courses (nothing_by (length courses))
 
 -- # Restarts
 
@@ -93,23 +93,23 @@ restarted _ = 0
 abbrev pub later : ℕ → ℕ → ℕ
 later event old = event
 
-abbrev pub restarts_from : ℕ → List TaleEvent → List ℕ → List ℕ
+abbrev pub restarts_from : ℕ → List RecordedEvent → List ℕ → List ℕ
 restarts_from place [] restarts = restarts
 restarts_from place (e ∷ es) restarts = restarts_from (place + 1) es (changed_at (restarted e.act) (later (place + 1)) restarts)
 
 -- the last restart of each node
-abbrev pub restarts_of : ℕ → List TaleEvent → List ℕ
+abbrev pub restarts_of : ℕ → List RecordedEvent → List ℕ
 restarts_of nodes es = restarts_from 0 es (replicate nodes 0)
 
 -- # Hearings
 
-abbrev pub hearings_from : ℕ → List TaleEvent → List (List ℕ) → List (List ℕ)
+abbrev pub hearings_from : ℕ → List RecordedEvent → List (List ℕ) → List (List ℕ)
 hearings_from place [] hearings = hearings
 hearings_from place (e ∷ es) hearings =
     hearings_from (place + 1) es (changed_at e.came (with_number (place + 1)) hearings)
 
 -- the events at which each flight came to a node
-abbrev pub hearings_of : ℕ → List TaleEvent → List (List ℕ)
+abbrev pub hearings_of : ℕ → List RecordedEvent → List (List ℕ)
 hearings_of count events = hearings_from 0 events (nothing_by count)
 
 -- # Events of stories
@@ -118,20 +118,20 @@ abbrev pub owner_with : ℕ → Option ℕ → List (List ℕ) → List (List �
 owner_with n None events = events
 owner_with n (Some story) events = changed_at story (with_new_number n) events
 
-abbrev pub makers_with : ℕ → List Lot → List (List ℕ) → List (List ℕ)
+abbrev pub makers_with : ℕ → List Course → List (List ℕ) → List (List ℕ)
 makers_with n [] events = events
-makers_with n (lot ∷ lots) events = makers_with n lots (changed_at lot.story (with_new_number n) events)
+makers_with n (course ∷ courses) events = makers_with n courses (changed_at course.story (with_new_number n) events)
 
-unfoldable pub event_with : ℕ → TaleEvent → List ℕ → List Lot → List (List ℕ) → List (List ℕ)
-event_with place e owners lots events = makers_with (place + 1) (made_by e lots) (owner_with (place + 1) (slice_get owners place) events)
+unfoldable pub event_with : ℕ → RecordedEvent → List ℕ → List Course → List (List ℕ) → List (List ℕ)
+event_with place e owners courses events = makers_with (place + 1) (made_by e courses) (owner_with (place + 1) (slice_get owners place) events)
 
-abbrev pub events_from : ℕ → List TaleEvent → List ℕ → List Lot → List (List ℕ) → List (List ℕ)
-events_from place [] owners lots events = events
-events_from place (e ∷ es) owners lots events = events_from (place + 1) es owners lots (event_with place e owners lots events)
+abbrev pub events_from : ℕ → List RecordedEvent → List ℕ → List Course → List (List ℕ) → List (List ℕ)
+events_from place [] owners courses events = events
+events_from place (e ∷ es) owners courses events = events_from (place + 1) es owners courses (event_with place e owners courses events)
 
 -- the events of each story: those that it owns, and those of others that made one of its flights
-abbrev pub events_of : ℕ → List TaleEvent → List ℕ → List Lot → List (List ℕ)
-events_of count es owners lots = events_from 0 es owners lots (nothing_by count)
+abbrev pub events_of : ℕ → List RecordedEvent → List ℕ → List Course → List (List ℕ)
+events_of count es owners courses = events_from 0 es owners courses (nothing_by count)
 
 -- # All of it
 
@@ -151,16 +151,16 @@ pub record Index : Type 0 where
   -- the last restart of each node, where node 0 is the first; 0 where there was none
   pub restarts : List ℕ
 
--- that of a run with so many stories and nodes, by the stories of its sends and of its events
-unfoldable pub index_of : ℕ → ℕ → List TaleEvent → List TaleFlight → List Lot → List ℕ → List ℕ → Index
-index_of count nodes es flights lots sent owners =
+-- that of a run with this many stories and nodes, by the stories of its sends and of its events
+unfoldable pub index_of : ℕ → ℕ → List RecordedEvent → List RecordedFlight → List Course → List ℕ → List ℕ → Index
+index_of count nodes es flights courses sent owners =
     record {
       sends = sends_of count sent;
-      events = events_of count es owners lots;
-      broken = broken_of count lots;
-      hearings = hearings_of (length lots) es;
+      events = events_of count es owners courses;
+      broken = broken_of count courses;
+      hearings = hearings_of (length courses) es;
       requests = requests_of nodes flights;
-      searches = searches_of lots;
+      searches = searches_of courses;
       restarts = restarts_of nodes es;
     }
 

@@ -4,21 +4,21 @@ use Rattle.std.specs.Prelude.{Option, None, Some, if◌then◌else◌}
 use Rattle.std.specs.Str.{bytes_eq}
 use Rattle.frame_words.specs.declared.gist.Gist.{Gist}
 use Rattle.frame_words.specs.declared.gist.Gist.TheVariants as gists
-use Rattle.line_tale.specs.declared.act.Act.{Act}
-use Rattle.line_tale.specs.declared.act.Act.TheVariants as acts
-use Rattle.line_tale.specs.declared.told.TaleEvent.{TaleEvent}
-use Rattle.line_tale.specs.declared.told.TaleFlight.{TaleFlight}
-use Rattle.line_tale.specs.declared.kind.StoryKind.{StoryKind}
-use Rattle.line_tale.specs.declared.kind.StoryKind.TheVariants as kinds
-use Rattle.line_tale.specs.declared.story.Story.{Story}
-use Rattle.line_tale.specs.declared.verdict.Verdict.{Verdict}
-use Rattle.line_tale.specs.declared.verdict.Verdict.TheVariants as verdicts
-use Rattle.line_tale.specs.Tales.{numbered}
+use Rattle.line_record.specs.declared.act.Act.{Act}
+use Rattle.line_record.specs.declared.act.Act.TheVariants as acts
+use Rattle.line_record.specs.declared.recorded.RecordedEvent.{RecordedEvent}
+use Rattle.line_record.specs.declared.recorded.RecordedFlight.{RecordedFlight}
+use Rattle.line_record.specs.declared.kind.StoryKind.{StoryKind}
+use Rattle.line_record.specs.declared.kind.StoryKind.TheVariants as kinds
+use Rattle.line_record.specs.declared.story.Story.{Story}
+use Rattle.line_record.specs.declared.verdict.Verdict.{Verdict}
+use Rattle.line_record.specs.declared.verdict.Verdict.TheVariants as verdicts
+use Rattle.line_record.specs.RunRecords.{numbered}
 use Rattle.sentence_parts.specs.declared.part.Part.TheVariants.{Words, Number, Node}
 use Rattle.sentence_parts.specs.Parts.{parts_text}
-use Rattle.line_tale.specs.declared.kept.Kept.{Kept}
-use Rattle.line_tale.specs.declared.kept.KeptEnd.{KeptEnd}
-use Rattle.line_tale.specs.declared.kept.KeptEnd.TheVariants as kept_ends
+use Rattle.line_record.specs.declared.kept.Kept.{Kept}
+use Rattle.line_record.specs.declared.kept.KeptEnd.{KeptEnd}
+use Rattle.line_record.specs.declared.kept.KeptEnd.TheVariants as kept_ends
 use Rattle.story_accounts.specs.Indexes.{broken_at}
 use Rattle.story_accounts.specs.Accounts.{RunAccount, answer_at, verdict_at, why}
 use Rattle.story_accounts.specs.Fates.{fate_text, two_words}
@@ -113,7 +113,7 @@ abbrev pub hops_left : Gist → ℕ
 hops_left (gists.Bears hops) = hops
 hops_left _ = 15
 
-abbrev pub hops_by : Option TaleFlight → ℕ
+abbrev pub hops_by : Option RecordedFlight → ℕ
 hops_by None = 0
 hops_by (Some flight) = 15 - hops_left flight.gist
 
@@ -123,7 +123,7 @@ delivered (acts.Deliver flight node cost) = flight
 delivered _ = 0
 
 -- the hops over which what comes by a flight was sent on
-abbrev pub hops_of : RunAccount → TaleEvent → ℕ
+abbrev pub hops_of : RunAccount → RecordedEvent → ℕ
 hops_of a e = hops_by (numbered a.flights (delivered e.act))
 
 abbrev pub hops_word : ℕ → List ℕ
@@ -138,11 +138,11 @@ over_text hops =
 unfoldable pub later_text : ℕ → List ℕ
 later_text seconds = if seconds == 0 then [] else parts_text (Words (codes ", ") ∷ Number seconds ∷ Words (codes " s later") ∷ [])
 
-unfoldable pub came_at_text : RunAccount → Story → ℕ → TaleEvent → List ℕ
+unfoldable pub came_at_text : RunAccount → Story → ℕ → RecordedEvent → List ℕ
 came_at_text a story event e =
     (parts_text (Words (codes "came at event ") ∷ Number event ∷ []) ++ over_text (hops_of a e)) ++ later_text (e.clock - clock_at a story.first)
 
-abbrev pub came_by : Option TaleEvent → RunAccount → Story → ℕ → List ℕ
+abbrev pub came_by : Option RecordedEvent → RunAccount → Story → ℕ → List ℕ
 came_by None a story event = []
 came_by (Some e) a story event = came_at_text a story event e
 

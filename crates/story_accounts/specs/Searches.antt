@@ -5,15 +5,15 @@ use Rattle.frame_words.specs.declared.gist.Gist.{Gist}
 use Rattle.frame_words.specs.declared.gist.Gist.TheVariants as gists
 use Rattle.line_events.specs.declared.event.Answer.{Answer}
 use Rattle.line_events.specs.declared.event.Answer.TheVariants as answers
-use Rattle.line_tale.specs.declared.told.TaleEvent.{TaleEvent}
-use Rattle.line_tale.specs.declared.told.TaleFlight.{TaleFlight}
-use Rattle.line_tale.specs.declared.lot.Lot.{Lot}
-use Rattle.line_tale.specs.declared.lot.Fate.{Fate}
-use Rattle.line_tale.specs.declared.lot.Fate.TheVariants as fates
-use Rattle.line_tale.specs.Kinds.{actor_of}
-use Rattle.line_tale.specs.Lists.{changed_at}
-use Rattle.line_tale.specs.Tales.{numbered}
-use Rattle.line_tale.specs.Verdicts.{or_number}
+use Rattle.line_record.specs.declared.recorded.RecordedEvent.{RecordedEvent}
+use Rattle.line_record.specs.declared.recorded.RecordedFlight.{RecordedFlight}
+use Rattle.line_record.specs.declared.course.Course.{Course}
+use Rattle.line_record.specs.declared.course.Fate.{Fate}
+use Rattle.line_record.specs.declared.course.Fate.TheVariants as fates
+use Rattle.line_record.specs.Kinds.{actor_of}
+use Rattle.line_record.specs.Lists.{changed_at}
+use Rattle.line_record.specs.RunRecords.{numbered}
+use Rattle.line_record.specs.Verdicts.{first_nonzero}
 use Rattle.story_accounts.specs.declared.searches.TheConstants.{REFUSED, TOOK}
 use Rattle.story_accounts.specs.Indexes.{hearings_at, search_at}
 use Rattle.story_accounts.specs.Accounts.{RunAccount}
@@ -25,7 +25,7 @@ pub record SearchReach : Type 0 where
   pub refusals : List ℕ
   -- the first event at which it was answered, 0 where it was not
   pub answered : ℕ
-  -- the last reply that was not taken, 0 where there is none
+  -- the last reply that was not taken, 0 if there is none
   pub reply : ℕ
 
 abbrev pub no_reach : ℕ → SearchReach
@@ -50,10 +50,10 @@ abbrev pub refusals_with : Bool → ℕ → List ℕ → List ℕ
 refusals_with refused n refusals = if refused && nat_lt (length refusals) 3 then refusals ++ (n ∷ []) else refusals
 
 abbrev pub answered_at : Answer → ℕ → ℕ → ℕ
-answered_at answer n before = if is_answered answer then or_number before n else before
+answered_at answer n before = if is_answered answer then first_nonzero before n else before
 
 -- a node hears the request at an event of this number
-abbrev pub heard : ℕ → TaleEvent → SearchReach → SearchReach
+abbrev pub heard : ℕ → RecordedEvent → SearchReach → SearchReach
 heard n e r =
     record r {
       states = changed_at (actor_of e.act + 1) (greater (state_of e.answer)) r.states;
@@ -61,7 +61,7 @@ heard n e r =
       answered = answered_at e.answer n r.answered;
     }
 
-abbrev pub heard_by : Option TaleEvent → ℕ → ℕ → SearchReach → SearchReach
+abbrev pub heard_by : Option RecordedEvent → ℕ → ℕ → SearchReach → SearchReach
 heard_by None n until r = r
 heard_by (Some e) n until r = if nat_le n until then heard n e r else r
 
@@ -83,7 +83,7 @@ abbrev pub is_missing : Fate → ℕ → Bool
 is_missing (fates.WentOn event) until = nat_lt until event
 is_missing _ until = true
 
-abbrev pub made_before : Option TaleEvent → ℕ → Bool
+abbrev pub made_before : Option RecordedEvent → ℕ → Bool
 made_before None flight = false
 made_before (Some e) flight = nat_lt flight (e.first_flight + e.flights)
 
@@ -91,12 +91,12 @@ made_before (Some e) flight = nat_lt flight (e.first_flight + e.flights)
 abbrev pub is_made_by : RunAccount → ℕ → ℕ → Bool
 is_made_by a until flight = made_before (numbered a.events until) flight
 
-abbrev pub reply_missing : Option Lot → RunAccount → ℕ → ℕ → Bool
+abbrev pub reply_missing : Option Course → RunAccount → ℕ → ℕ → Bool
 reply_missing None a flight until = false
-reply_missing (Some lot) a flight until = is_made_by a until flight && is_missing lot.fate until
+reply_missing (Some course) a flight until = is_made_by a until flight && is_missing course.fate until
 
 abbrev pub is_reply_missing : RunAccount → ℕ → ℕ → Bool
-is_reply_missing a flight until = reply_missing (numbered a.lots flight) a flight until
+is_reply_missing a flight until = reply_missing (numbered a.courses flight) a flight until
 
 -- # The flights of a search
 
@@ -105,12 +105,12 @@ followed_by (gists.Seeks origin sought cost) a flight until r = heard_from a (he
 followed_by (gists.Replies origin to) a flight until r = missed flight (is_reply_missing a flight until) r
 followed_by _ a flight until r = r
 
-abbrev pub followed_told : Option TaleFlight → RunAccount → ℕ → ℕ → SearchReach → SearchReach
-followed_told None a flight until r = r
-followed_told (Some told) a flight until r = followed_by told.gist a flight until r
+abbrev pub followed_flight : Option RecordedFlight → RunAccount → ℕ → ℕ → SearchReach → SearchReach
+followed_flight None a flight until r = r
+followed_flight (Some recorded) a flight until r = followed_by recorded.gist a flight until r
 
 abbrev pub followed : RunAccount → ℕ → ℕ → SearchReach → SearchReach
-followed a flight until r = followed_told (numbered a.flights flight) a flight until r
+followed a flight until r = followed_flight (numbered a.flights flight) a flight until r
 
 abbrev pub followed_from : RunAccount → List ℕ → ℕ → SearchReach → SearchReach
 followed_from a [] until r = r

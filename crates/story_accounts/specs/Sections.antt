@@ -5,20 +5,20 @@ use Rattle.frame_words.specs.declared.gist.FrameTarget.{FrameTarget}
 use Rattle.line_events.specs.declared.event.Answer.{Answer}
 use Rattle.line_events.specs.Answers.{is_ok}
 use Rattle.line_script.specs.AnswerWords.{answer_word}
-use Rattle.line_tale.specs.declared.told.TaleEvent.{TaleEvent}
-use Rattle.line_tale.specs.declared.told.TaleFlight.{TaleFlight}
-use Rattle.line_tale.specs.declared.kind.StoryKind.{StoryKind}
-use Rattle.line_tale.specs.declared.kind.StoryKind.TheVariants as kinds
-use Rattle.line_tale.specs.declared.story.Story.{Story}
-use Rattle.line_tale.specs.declared.lot.Lot.{Lot}
-use Rattle.line_tale.specs.declared.kept.Kept.{Kept}
-use Rattle.line_tale.specs.declared.lot.Fate.{Fate}
-use Rattle.line_tale.specs.declared.lot.Fate.TheVariants as fates
-use Rattle.line_tale.specs.declared.verdict.Verdict.{Verdict}
-use Rattle.line_tale.specs.declared.verdict.Verdict.TheVariants as verdicts
-use Rattle.line_tale.specs.Tales.{made_by, numbered}
-use Rattle.line_tale.specs.Kinds.{is_for_another, is_refused}
-use Rattle.line_tale.specs.Verdicts.{is_good}
+use Rattle.line_record.specs.declared.recorded.RecordedEvent.{RecordedEvent}
+use Rattle.line_record.specs.declared.recorded.RecordedFlight.{RecordedFlight}
+use Rattle.line_record.specs.declared.kind.StoryKind.{StoryKind}
+use Rattle.line_record.specs.declared.kind.StoryKind.TheVariants as kinds
+use Rattle.line_record.specs.declared.story.Story.{Story}
+use Rattle.line_record.specs.declared.course.Course.{Course}
+use Rattle.line_record.specs.declared.kept.Kept.{Kept}
+use Rattle.line_record.specs.declared.course.Fate.{Fate}
+use Rattle.line_record.specs.declared.course.Fate.TheVariants as fates
+use Rattle.line_record.specs.declared.verdict.Verdict.{Verdict}
+use Rattle.line_record.specs.declared.verdict.Verdict.TheVariants as verdicts
+use Rattle.line_record.specs.RunRecords.{made_by, numbered}
+use Rattle.line_record.specs.Kinds.{is_for_another, is_refused}
+use Rattle.line_record.specs.Verdicts.{is_good}
 use Rattle.sentence_parts.specs.declared.part.Part.TheVariants.{Words, Number}
 use Rattle.sentence_parts.specs.Parts.{parts_text}
 use Rattle.story_accounts.specs.declared.section.Chosen.{Chosen}
@@ -134,7 +134,7 @@ good_among a (n ∷ ns) = number_if (came_well a n) n ++ good_among a ns
 
 -- # Why stories failed
 
-abbrev pub refusal_word : Option TaleEvent → List ℕ
+abbrev pub refusal_word : Option RecordedEvent → List ℕ
 refusal_word None = []
 refusal_word (Some e) = if is_for_another e.answer then codes "the next node had left, or has another address" else answer_word e.answer
 
@@ -152,14 +152,14 @@ fate_reason (fates.Refused event) a target = refusal_at a event
 fate_reason (fates.Reported event) a target = codes "Reported: a relay had no route"
 fate_reason (fates.WentOn event) a target = codes "nothing followed"
 
-abbrev pub reason_by : Option TaleFlight → Option Lot → RunAccount → List ℕ
-reason_by None lot a = codes "nothing went out"
+abbrev pub reason_by : Option RecordedFlight → Option Course → RunAccount → List ℕ
+reason_by None course a = codes "nothing went out"
 reason_by (Some flight) None a = codes "nothing went out"
-reason_by (Some flight) (Some lot) a = fate_reason lot.fate a flight.target
+reason_by (Some flight) (Some course) a = fate_reason course.fate a flight.target
 
 -- why a flight did not go on, in a few words
 unfoldable pub flight_reason : RunAccount → ℕ → List ℕ
-flight_reason a flight = reason_by (numbered a.flights flight) (numbered a.lots flight) a
+flight_reason a flight = reason_by (numbered a.flights flight) (numbered a.courses flight) a
 
 -- why a search for a route gave none, in a few words
 abbrev pub reach_reason : SearchReach → List ℕ
@@ -172,7 +172,7 @@ reach_reason r =
 abbrev pub request_reason : RunAccount → ℕ → ℕ → List ℕ
 request_reason a request until = if request == 0 then codes "nothing went out" else reach_reason (reach_of a request until)
 
-abbrev pub kept_by : Option TaleEvent → RunAccount → Story → Kept → List ℕ
+abbrev pub kept_by : Option RecordedEvent → RunAccount → Story → Kept → List ℕ
 kept_by None a story k = codes "nothing went out"
 kept_by (Some e) a story k = request_reason a (request_of a story k e) (until_of k.end (length a.events))
 
@@ -248,7 +248,7 @@ reasons_text a stories = reason_rows (reasons a stories)
 -- # Stories
 
 -- what came to a node that it is not for has no words
-abbrev pub is_shown : RunAccount → ℕ → TaleEvent → Bool
+abbrev pub is_shown : RunAccount → ℕ → RecordedEvent → Bool
 is_shown a event e = not (is_for_another e.answer) || not (length (why a event) == 0)
 
 abbrev pub refusal_mark : Answer → List ℕ
@@ -260,10 +260,10 @@ event_line_by event line why mark =
     (Words (codes "      event ") ∷ Number event ∷ Words (codes ", line ") ∷ Number line ∷ Words (codes ": ") ∷ Words why
     ∷ Words (codes ".") ∷ Words mark ∷ Words (codes "\n") ∷ [])
 
-unfoldable pub event_line : RunAccount → ℕ → TaleEvent → List ℕ
+unfoldable pub event_line : RunAccount → ℕ → RecordedEvent → List ℕ
 event_line a event e = event_line_by event e.line (why a event) (refusal_mark e.answer)
 
-abbrev pub event_by : Option TaleEvent → RunAccount → ℕ → List ℕ
+abbrev pub event_by : Option RecordedEvent → RunAccount → ℕ → List ℕ
 event_by None a event = []
 event_by (Some e) a event = if is_shown a event e then event_line a event e else []
 
@@ -274,8 +274,8 @@ abbrev pub left_words : StoryKind → List ℕ
 left_words kinds.Datagram = codes "the datagram left as flight "
 left_words _ = codes "the message left as flight "
 
-abbrev pub is_of : ℕ → Lot → Bool
-is_of number lot = lot.story == number
+abbrev pub is_of : ℕ → Course → Bool
+is_of number course = course.story == number
 
 unfoldable pub left_by : ℕ → ℕ → List ℕ → ℕ → List ℕ
 left_by event line what flight =
@@ -283,15 +283,15 @@ left_by event line what flight =
     (Words (codes "      event ") ∷ Number event ∷ Words (codes ", line ") ∷ Number line ∷ Words (codes ": ") ∷ Words what ∷ Number flight
     ∷ Words (codes ".\n") ∷ [])
 
-abbrev pub left_at : Option ℕ → ℕ → TaleEvent → Story → List ℕ
+abbrev pub left_at : Option ℕ → ℕ → RecordedEvent → Story → List ℕ
 left_at None event e story = []
 left_at (Some place) event e story = left_by event e.line (left_words story.kind) (e.first_flight + place)
 
 -- what left of a story at an event of another one, by the first flight of it
-abbrev pub left_text : RunAccount → ℕ → TaleEvent → ℕ → Story → List ℕ
-left_text a event e number story = left_at (position (is_of number) (made_by e a.lots)) event e story
+abbrev pub left_text : RunAccount → ℕ → RecordedEvent → ℕ → Story → List ℕ
+left_text a event e number story = left_at (position (is_of number) (made_by e a.courses)) event e story
 
-abbrev pub left_with : Option TaleEvent → RunAccount → ℕ → ℕ → Story → List ℕ
+abbrev pub left_with : Option RecordedEvent → RunAccount → ℕ → ℕ → Story → List ℕ
 left_with None a event number story = []
 left_with (Some e) a event number story = left_text a event e number story
 
@@ -322,12 +322,12 @@ whole_events false a number story = []
 abbrev pub story_text : RunAccount → ℕ → Story → Bool → List ℕ
 story_text a number story whole = story_head a number story ++ whole_events whole a number story
 
--- whether good stories are told in short, or left out where there are many
+-- whether good stories are written in short, or left out where there are many
 abbrev pub is_brief : Chosen → Bool
 is_brief chosens.Failed = true
 is_brief _ = false
 
--- many stories are more than so many
+-- many stories are more than this many
 abbrev pub many : ℕ
 many = 20
 
@@ -382,7 +382,7 @@ sections_from a (section ∷ rest) chosen = section_text a section chosen ++ sec
 
 -- # Refusals
 
-abbrev pub refused_from : ℕ → List TaleEvent → List ℕ
+abbrev pub refused_from : ℕ → List RecordedEvent → List ℕ
 refused_from place [] = []
 refused_from place (e ∷ es) = number_if (is_refused e.answer) (place + 1) ++ refused_from (place + 1) es
 
@@ -390,7 +390,7 @@ abbrev pub answers_from : RunAccount → List ℕ → List WordGroup → List Wo
 answers_from a [] groups = groups
 answers_from a (event ∷ events) groups = answers_from a events (joined (answer_at a event) event groups)
 
-abbrev pub line_by : Option TaleEvent → ℕ
+abbrev pub line_by : Option RecordedEvent → ℕ
 line_by None = 0
 line_by (Some e) = e.line
 
@@ -429,11 +429,11 @@ refusals_text a = refusals_by a (refused_from 0 a.events)
 
 -- # Flights that never came
 
-abbrev pub mute_from : ℕ → List Lot → List ℕ
+abbrev pub mute_from : ℕ → List Course → List ℕ
 mute_from place [] = []
-mute_from place (lot ∷ lots) = number_if (is_mute lot.fate) (place + 1) ++ mute_from (place + 1) lots
+mute_from place (course ∷ courses) = number_if (is_mute course.fate) (place + 1) ++ mute_from (place + 1) courses
 
-abbrev pub is_maker : ℕ → TaleEvent → Bool
+abbrev pub is_maker : ℕ → RecordedEvent → Bool
 is_maker flight e = nat_le e.first_flight flight && nat_lt (flight - e.first_flight) e.flights
 
 abbrev pub after_place : Option ℕ → ℕ
@@ -468,20 +468,20 @@ mute_by a flights = if length flights == 0 then [] else mute_of a flights
 
 -- the flights that never came to the node that they are for: how many there are, and the first of them
 abbrev pub mute_text : RunAccount → List ℕ
-mute_text a = mute_by a (mute_from 0 a.lots)
+mute_text a = mute_by a (mute_from 0 a.courses)
 
 -- # Forged events
 
-unfoldable pub forged_row : RunAccount → ℕ → TaleEvent → List ℕ
+unfoldable pub forged_row : RunAccount → ℕ → RecordedEvent → List ℕ
 forged_row a event e =
     parts_text
     (Words (codes "FORGED at event ") ∷ Number event ∷ Words (codes ", line ") ∷ Number e.line ∷ Words (codes ": ") ∷ Words (why a event)
     ∷ Words (codes ". No node of this run had made that tag with that key.\n") ∷ [])
 
-abbrev pub forged_by : RunAccount → ℕ → TaleEvent → List ℕ
+abbrev pub forged_by : RunAccount → ℕ → RecordedEvent → List ℕ
 forged_by a event e = if e.forged then forged_row a event e else []
 
-abbrev pub forged_from : RunAccount → ℕ → List TaleEvent → List ℕ
+abbrev pub forged_from : RunAccount → ℕ → List RecordedEvent → List ℕ
 forged_from a place [] = []
 forged_from a place (e ∷ es) = forged_by a (place + 1) e ++ forged_from a (place + 1) es
 

@@ -3,11 +3,11 @@ use Rattle.std.specs.Prelude.{ℕ, ◌==◌, List, [], ◌∷◌, ◌++◌, code
 use Rattle.std.specs.Str.{chars}
 use Rattle.std.specs.Char.{to_ascii_uppercase}
 use Rattle.std.specs.Prelude.{encode_utf8}
-use Rattle.line_tale.specs.declared.act.Act.{Act}
-use Rattle.line_tale.specs.declared.act.Act.TheVariants as acts
-use Rattle.line_tale.specs.declared.told.TaleEvent.{TaleEvent}
-use Rattle.line_tale.specs.declared.story.Story.{Story}
-use Rattle.line_tale.specs.Tales.{numbered}
+use Rattle.line_record.specs.declared.act.Act.{Act}
+use Rattle.line_record.specs.declared.act.Act.TheVariants as acts
+use Rattle.line_record.specs.declared.recorded.RecordedEvent.{RecordedEvent}
+use Rattle.line_record.specs.declared.story.Story.{Story}
+use Rattle.line_record.specs.RunRecords.{numbered}
 use Rattle.sentence_parts.specs.declared.part.Part.TheVariants.{Words, Number, Node}
 use Rattle.sentence_parts.specs.Parts.{parts_text}
 use Rattle.story_accounts.specs.Indexes.{send_at}
@@ -55,7 +55,7 @@ title_by (acts.Bcast node size) send = broadcast_title node size
 title_by (acts.Path from to) send = two_nodes from (codes " asks for the way to ") to
 title_by _ send = []
 
-abbrev pub title_of : Option TaleEvent → ℕ → List ℕ
+abbrev pub title_of : Option RecordedEvent → ℕ → List ℕ
 title_of None send = []
 title_of (Some e) send = title_by e.act send
 

@@ -5,21 +5,21 @@ use Rattle.std.specs.List.{list_any}
 use Rattle.std.specs.Option.{unwrap_or}
 use Rattle.frame_words.specs.declared.gist.Gist.{Gist}
 use Rattle.frame_words.specs.declared.gist.Gist.TheVariants as gists
-use Rattle.line_tale.specs.declared.act.Act.{Act}
-use Rattle.line_tale.specs.declared.act.Act.TheVariants as acts
-use Rattle.line_tale.specs.declared.told.TaleEvent.{TaleEvent}
-use Rattle.line_tale.specs.declared.told.TaleFlight.{TaleFlight}
-use Rattle.line_tale.specs.declared.kind.StoryKind.{StoryKind}
-use Rattle.line_tale.specs.declared.kind.StoryKind.TheVariants as kinds
-use Rattle.line_tale.specs.declared.story.Story.{Story}
-use Rattle.line_tale.specs.declared.lot.Lot.{Lot}
-use Rattle.line_tale.specs.declared.lot.Fate.{Fate}
-use Rattle.line_tale.specs.declared.lot.Fate.TheVariants as fates
-use Rattle.line_tale.specs.declared.kept.Kept.{Kept}
-use Rattle.line_tale.specs.declared.kept.KeptEnd.{KeptEnd}
-use Rattle.line_tale.specs.declared.kept.KeptEnd.TheVariants as kept_ends
-use Rattle.line_tale.specs.Tales.{made_by, numbered}
-use Rattle.line_tale.specs.Verdicts.{or_number}
+use Rattle.line_record.specs.declared.act.Act.{Act}
+use Rattle.line_record.specs.declared.act.Act.TheVariants as acts
+use Rattle.line_record.specs.declared.recorded.RecordedEvent.{RecordedEvent}
+use Rattle.line_record.specs.declared.recorded.RecordedFlight.{RecordedFlight}
+use Rattle.line_record.specs.declared.kind.StoryKind.{StoryKind}
+use Rattle.line_record.specs.declared.kind.StoryKind.TheVariants as kinds
+use Rattle.line_record.specs.declared.story.Story.{Story}
+use Rattle.line_record.specs.declared.course.Course.{Course}
+use Rattle.line_record.specs.declared.course.Fate.{Fate}
+use Rattle.line_record.specs.declared.course.Fate.TheVariants as fates
+use Rattle.line_record.specs.declared.kept.Kept.{Kept}
+use Rattle.line_record.specs.declared.kept.KeptEnd.{KeptEnd}
+use Rattle.line_record.specs.declared.kept.KeptEnd.TheVariants as kept_ends
+use Rattle.line_record.specs.RunRecords.{made_by, numbered}
+use Rattle.line_record.specs.Verdicts.{first_nonzero}
 use Rattle.sentence_parts.specs.declared.part.Part.TheVariants.{Words, Number, Node}
 use Rattle.sentence_parts.specs.Parts.{parts_text}
 use Rattle.story_accounts.specs.declared.searches.TheConstants.{REFUSED, TOOK}
@@ -38,7 +38,7 @@ abbrev pub is_sought : ℕ → Gist → Bool
 is_sought wanted (gists.Seeks origin sought cost) = sought == wanted
 is_sought wanted _ = false
 
-abbrev pub seeks : ℕ → Option TaleFlight → Bool
+abbrev pub seeks : ℕ → Option RecordedFlight → Bool
 seeks wanted None = false
 seeks wanted (Some flight) = is_sought wanted flight.gist
 
@@ -51,8 +51,8 @@ own_by first None = 0
 own_by first (Some place) = first + place
 
 -- the request that an event makes itself, 0 where it makes none
-unfoldable pub own_request : RunAccount → TaleEvent → ℕ
-own_request a e = own_by e.first_flight (position (λ (f : TaleFlight). begins_search f.gist) (made_by e a.flights))
+unfoldable pub own_request : RunAccount → RecordedEvent → ℕ
+own_request a e = own_by e.first_flight (position (λ (f : RecordedFlight). begins_search f.gist) (made_by e a.flights))
 
 -- the last of these requests before a flight that is for an address
 abbrev pub request_in : RunAccount → ℕ → ℕ → List ℕ → ℕ → ℕ
@@ -61,18 +61,18 @@ request_in a wanted before (n ∷ ns) found =
     request_in a wanted before ns (if nat_lt n before && seeks wanted (numbered a.flights n) then n else found)
 
 -- the last request of a node before an event, for an address
-unfoldable pub request_for : Option ℕ → RunAccount → TaleEvent → ℕ → ℕ
+unfoldable pub request_for : Option ℕ → RunAccount → RecordedEvent → ℕ → ℕ
 request_for None a e node = 0
 request_for (Some wanted) a e node = request_in a wanted e.first_flight (requests_at a.index node) 0
 
 -- the node that the first flight of a story is for
-abbrev pub agent_by : Option Lot → Story → ℕ
+abbrev pub agent_by : Option Course → Story → ℕ
 agent_by None story = story.person
-agent_by (Some lot) story = unwrap_or lot.to story.person
+agent_by (Some course) story = unwrap_or course.to story.person
 
-abbrev pub agent_with : Option TaleEvent → RunAccount → Story → ℕ
+abbrev pub agent_with : Option RecordedEvent → RunAccount → Story → ℕ
 agent_with None a story = story.person
-agent_with (Some e) a story = agent_by (numbered a.lots e.first_flight) story
+agent_with (Some e) a story = agent_by (numbered a.courses e.first_flight) story
 
 unfoldable pub agent_of : RunAccount → Story → ℕ
 agent_of a story = agent_with (numbered a.events story.first) a story
@@ -161,19 +161,19 @@ lost_text event = parts_text (Words (codes ", was lost (event ") ∷ Number even
 unfoldable pub all_taken_text : ℕ → List ℕ
 all_taken_text event = parts_text (Words (codes "a node answered (event ") ∷ Number event ∷ Words (codes "), and no reply is missing") ∷ [])
 
-abbrev pub reply_by : Fate → RunAccount → ℕ → TaleFlight → Lot → List ℕ
-reply_by (fates.Lost event) a flight told lot = way_text a flight told ++ lost_text event
-reply_by (fates.WentOn event) a flight told lot = way_text a flight told ++ late_text event
-reply_by _ a flight told lot = fate_text a flight
+abbrev pub reply_by : Fate → RunAccount → ℕ → RecordedFlight → Course → List ℕ
+reply_by (fates.Lost event) a flight recorded course = way_text a flight recorded ++ lost_text event
+reply_by (fates.WentOn event) a flight recorded course = way_text a flight recorded ++ late_text event
+reply_by _ a flight recorded course = fate_text a flight
 
-abbrev pub reply_with : Option TaleFlight → Option Lot → RunAccount → ℕ → List ℕ
-reply_with None lot a flight = []
-reply_with (Some told) None a flight = []
-reply_with (Some told) (Some lot) a flight = reply_by lot.fate a flight told lot
+abbrev pub reply_with : Option RecordedFlight → Option Course → RunAccount → ℕ → List ℕ
+reply_with None course a flight = []
+reply_with (Some recorded) None a flight = []
+reply_with (Some recorded) (Some course) a flight = reply_by course.fate a flight recorded course
 
 -- a reply that did not come back
 unfoldable pub reply_text : RunAccount → ℕ → List ℕ
-reply_text a flight = reply_with (numbered a.flights flight) (numbered a.lots flight) a flight
+reply_text a flight = reply_with (numbered a.flights flight) (numbered a.courses flight) a flight
 
 unfoldable pub answer_text : RunAccount → SearchReach → List ℕ
 answer_text a r = if r.reply == 0 then all_taken_text r.answered else answered_text r.answered ++ reply_text a r.reply
@@ -182,24 +182,24 @@ abbrev pub before_words : Bool → List ℕ
 before_words true = []
 before_words false = codes " before that"
 
-abbrev pub unheard_by : Option Lot → ℕ → TaleFlight → List ℕ
-unheard_by None request told = []
-unheard_by (Some lot) request told = unreached_text request told lot.fate ++ before_words (is_mute lot.fate)
+abbrev pub unheard_by : Option Course → ℕ → RecordedFlight → List ℕ
+unheard_by None request recorded = []
+unheard_by (Some course) request recorded = unreached_text request recorded course.fate ++ before_words (is_mute course.fate)
 
 -- a request that no node heard so far
-unfoldable pub unheard_text : RunAccount → ℕ → TaleFlight → List ℕ
-unheard_text a request told = unheard_by (numbered a.lots request) request told
+unfoldable pub unheard_text : RunAccount → ℕ → RecordedFlight → List ℕ
+unheard_text a request recorded = unheard_by (numbered a.courses request) request recorded
 
-unfoldable pub refused_text : RunAccount → ℕ → SearchReach → TaleFlight → List ℕ
-refused_text a request r told =
-    if length r.refusals == 0 then unheard_text a request told else refused_by_all_text a request told r.refusals
+unfoldable pub refused_text : RunAccount → ℕ → SearchReach → RecordedFlight → List ℕ
+refused_text a request r recorded =
+    if length r.refusals == 0 then unheard_text a request recorded else refused_by_all_text a request recorded r.refusals
 
-unfoldable pub unanswered_text : RunAccount → ℕ → SearchReach → TaleFlight → List ℕ
-unanswered_text a request r told = if has_taken r.states then reached_text r.states told.from else refused_text a request r told
+unfoldable pub unanswered_text : RunAccount → ℕ → SearchReach → RecordedFlight → List ℕ
+unanswered_text a request r recorded = if has_taken r.states then reached_text r.states recorded.from else refused_text a request r recorded
 
-abbrev pub unanswered_by : Option TaleFlight → RunAccount → ℕ → SearchReach → List ℕ
+abbrev pub unanswered_by : Option RecordedFlight → RunAccount → ℕ → SearchReach → List ℕ
 unanswered_by None a request r = []
-unanswered_by (Some told) a request r = unanswered_text a request r told
+unanswered_by (Some recorded) a request r = unanswered_text a request r recorded
 
 abbrev pub search_by : RunAccount → ℕ → SearchReach → List ℕ
 search_by a request r = if nat_lt 0 r.answered then answer_text a r else unanswered_by (numbered a.flights request) a request r
@@ -208,13 +208,13 @@ search_by a request r = if nat_lt 0 r.answered then answer_text a r else unanswe
 unfoldable pub search_text : RunAccount → ℕ → ℕ → List ℕ
 search_text a request until = search_by a request (reach_of a request until)
 
-abbrev pub owner_by : Option Lot → ℕ
+abbrev pub owner_by : Option Course → ℕ
 owner_by None = 0
-owner_by (Some lot) = lot.story
+owner_by (Some course) = course.story
 
 -- the story of a flight
 abbrev pub owner_of : RunAccount → ℕ → ℕ
-owner_of a flight = owner_by (numbered a.lots flight)
+owner_of a flight = owner_by (numbered a.courses flight)
 
 abbrev pub send_word : ℕ → List ℕ
 send_word send = if send == 0 then codes "event " else codes "send "
@@ -227,14 +227,14 @@ behind_words what first request =
 
 abbrev pub behind_by : ℕ → RunAccount → ℕ → ℕ → List ℕ
 behind_by story a request until =
-    behind_words (send_word (send_at a.index story)) (or_number (send_at a.index story) (first_of a story)) request
+    behind_words (send_word (send_at a.index story)) (first_nonzero (send_at a.index story) (first_of a story)) request
     ++ search_text a request until
 
 -- what waits behind a request of before, which is that of another story
 unfoldable pub behind_text : RunAccount → ℕ → ℕ → List ℕ
 behind_text a request until = if request == 0 then codes "nothing went out" else behind_by (owner_of a request) a request until
 
--- the event up to which something is kept, among so many
+-- the event up to which something is kept, among this many
 abbrev pub until_of : KeptEnd → ℕ → ℕ
 until_of kept_ends.Still count = count
 until_of (kept_ends.Aged event seconds) count = event
@@ -242,17 +242,17 @@ until_of (kept_ends.Restarted event) count = event
 until_of (kept_ends.Left event) count = event
 until_of (kept_ends.Halted event) count = event
 
--- the request for which something waits that began to at an event, 0 where there is none: of the event itself, or of its node before
-unfoldable pub request_of : RunAccount → Story → Kept → TaleEvent → ℕ
+-- the request for which something waits that began to at an event, 0 if there is none: of the event itself, or of its node before
+unfoldable pub request_of : RunAccount → Story → Kept → RecordedEvent → ℕ
 request_of a story k e =
     if nat_lt 0 (own_request a e) then own_request a e else request_for (address_of a.homes (asked_by e.act a story k.node)) a e k.node
 
-unfoldable pub cause_at : RunAccount → Story → Kept → TaleEvent → List ℕ
+unfoldable pub cause_at : RunAccount → Story → Kept → RecordedEvent → List ℕ
 cause_at a story k e =
     if nat_lt 0 (own_request a e) then search_text a (own_request a e) (until_of k.end (length a.events))
     else behind_text a (request_for (address_of a.homes (asked_by e.act a story k.node)) a e k.node) (until_of k.end (length a.events))
 
-abbrev pub cause_by : Option TaleEvent → RunAccount → Story → Kept → List ℕ
+abbrev pub cause_by : Option RecordedEvent → RunAccount → Story → Kept → List ℕ
 cause_by None a story k = []
 cause_by (Some e) a story k = cause_at a story k e
 
@@ -310,7 +310,7 @@ loose_by (Some story) a number = loose_with story.waits a number story
 unfoldable pub loose_text : RunAccount → ℕ → List ℕ
 loose_text a number = loose_by (numbered a.stories number) a number
 
-abbrev pub clock_by : Option TaleEvent → ℕ
+abbrev pub clock_by : Option RecordedEvent → ℕ
 clock_by None = 0
 clock_by (Some e) = e.clock
 

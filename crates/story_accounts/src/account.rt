@@ -1,6 +1,6 @@
 //! A run with its stories and its sentences.
 ghost use Rattle.std.specs.Prelude.{◌≡◌, IfOk, string_bytes};
-ghost use Rattle.line_tale.specs.Tales.{numbered};
+ghost use Rattle.line_record.specs.RunRecords.{numbered};
 ghost use Rattle.sentence_parts.specs.Parts.{parts_text};
 ghost use Rattle.story_accounts.specs.Accounts as accounts;
 
@@ -8,8 +8,10 @@ use crate::index::Index;
 use crate::marks::Marks;
 use crate::numbers::numbered;
 use frame_details::FlightMore;
+use line_record::{
+    Counters, Course, Ends, RecordedEvent, RecordedFlight, RunRecord, Story, Verdict, verdict_of,
+};
 use line_script::answer_word;
-use line_tale::{Counters, Ends, Lot, Story, Tale, TaleEvent, TaleFlight, Verdict, verdict_of};
 use plc_base::Eui;
 use sentence_parts::{Part, sentence};
 use std::alloc::{AllocError, Global};
@@ -21,7 +23,7 @@ pub struct Account<'a> {
     /// Where texts are made.
     pub alloc: Global,
     /// The run.
-    pub tale: &'a Tale,
+    pub run_record: &'a RunRecord,
     /// What its flights carry that no story goes by.
     pub more: &'a [FlightMore],
     /// Which flight was sealed with which counter.
@@ -33,7 +35,7 @@ pub struct Account<'a> {
     /// The story of each event.
     pub owners: &'a [usize],
     /// What became of each flight.
-    pub lots: &'a [Lot],
+    pub courses: &'a [Course],
     /// The ends of the stories.
     pub ends: &'a [Ends],
     /// What is looked up of it.
@@ -53,14 +55,14 @@ impl<'a> Model for Account<'a> {
     ghost Value = { RunAccount };
 
     ghost view = { λ a. record {
-      events = a.tale.now.events.items;
-      flights = a.tale.now.flights.items;
+      events = a.run_record.now.events.items;
+      flights = a.run_record.now.flights.items;
       more = a.more.now;
       counters = a.counters.now;
       marks = a.marks.now;
       stories = a.stories.now;
       owners = a.owners.now;
-      lots = a.lots.now;
+      courses = a.courses.now;
       ends = a.ends.now;
       index = a.index.now;
       homes = a.homes.now;
@@ -78,17 +80,17 @@ impl<'a> Account<'a> {
     }
 
     /// The event of a number, if there is one.
-    pub fn event(&self, number: usize) -> Option<TaleEvent>
+    pub fn event(&self, number: usize) -> Option<RecordedEvent>
         ensures { result ≡ numbered self.now.events number }
     {
-        numbered(self.tale.events.as_slice(), number)
+        numbered(self.run_record.events.as_slice(), number)
     }
 
     /// The flight of a number, if there is one.
-    pub fn flight(&self, number: usize) -> Option<TaleFlight>
+    pub fn flight(&self, number: usize) -> Option<RecordedFlight>
         ensures { result ≡ numbered self.now.flights number }
     {
-        numbered(self.tale.flights.as_slice(), number)
+        numbered(self.run_record.flights.as_slice(), number)
     }
 
     /// The story of a number, if there is one.
@@ -99,10 +101,10 @@ impl<'a> Account<'a> {
     }
 
     /// What became of the flight of a number, if there is one.
-    pub fn lot(&self, number: usize) -> Option<Lot>
-        ensures { result ≡ numbered self.now.lots number }
+    pub fn course(&self, number: usize) -> Option<Course>
+        ensures { result ≡ numbered self.now.courses number }
     {
-        numbered(self.lots, number)
+        numbered(self.courses, number)
     }
 
     /// The ends of a story.
@@ -138,7 +140,7 @@ impl<'a> Account<'a> {
         ensures { result.now ≡ accounts.answer_at self.now event }
     {
         match self.event(event) {
-            Some(told) => answer_word(told.answer),
+            Some(recorded) => answer_word(recorded.answer),
             None => "",
         }
     }

@@ -1,7 +1,7 @@
 //! What became of a flight, in words.
 ghost use Rattle.std.specs.Prelude.{◌≡◌, ◌++◌, IfOk, OnOk, string_bytes};
-ghost use Rattle.line_tale.specs.Tales.{numbered};
-ghost use Rattle.line_tale.specs.Verdicts.{went_on};
+ghost use Rattle.line_record.specs.RunRecords.{numbered};
+ghost use Rattle.line_record.specs.Verdicts.{went_on};
 ghost use Rattle.story_accounts.specs.PeerMarks.{mark_in};
 ghost use Rattle.story_accounts.specs.Fates as spec_fates;
 
@@ -9,8 +9,8 @@ use crate::account::Account;
 use crate::numbers::numbered;
 use frame_details::FlightMore;
 use frame_words::{FrameTarget, PayloadKind, kind_word};
+use line_record::{Course, Fate, RecordedFlight, actor_of, takes_counter, went_on};
 use line_script::answer_word;
-use line_tale::{Fate, Lot, TaleFlight, actor_of, takes_counter, went_on};
 use sentence_parts::{node, number, place, push_parts, sentence, who_of, words};
 use std::alloc::{AllocError, Global};
 
@@ -85,16 +85,16 @@ impl<'a> Account<'a> {
     fn push_hearer(&self, text: &mut String, event: usize) -> Result<(), AllocError>
         ensures { OnOk result (string_bytes text.new ≡ string_bytes text.old ++ spec_fates.hearer_text self.now event) }
     {
-        let Some(told) = self.event(event) else {
+        let Some(recorded) = self.event(event) else {
             return Ok(());
         };
         push_parts(
             text,
             self.alloc,
             &[
-                node(actor_of(&told.act)),
+                node(actor_of(&recorded.act)),
                 words(" "),
-                words(answer_word(told.answer)),
+                words(answer_word(recorded.answer)),
                 words(" (event "),
                 number(event),
                 words(")"),
@@ -117,18 +117,18 @@ impl<'a> Account<'a> {
     pub fn unreached_text(
         &self,
         flight: usize,
-        told: &TaleFlight,
+        recorded: &RecordedFlight,
         fate: &Fate,
     ) -> Result<String, AllocError>
-        ensures { IfOk result (λ text. string_bytes text ≡ spec_fates.unreached_text flight told.now fate.now) }
+        ensures { IfOk result (λ text. string_bytes text ≡ spec_fates.unreached_text flight recorded.now fate.now) }
     {
         self.say(&[
             words("the "),
-            words(what_word(told.kind)),
+            words(what_word(recorded.kind)),
             words(" (flight "),
             number(flight),
             words(" of "),
-            node(u32::from(told.from)),
+            node(u32::from(recorded.from)),
             words(") reached no node"),
             words(lost_words(fate)),
         ])
@@ -139,14 +139,14 @@ impl<'a> Account<'a> {
     pub fn refused_by_all_text(
         &self,
         flight: usize,
-        told: &TaleFlight,
+        recorded: &RecordedFlight,
         events: &[usize],
     ) -> Result<String, AllocError>
-        ensures { IfOk result (λ text. string_bytes text ≡ spec_fates.refused_by_all_text self.now flight told.now events.now) }
+        ensures { IfOk result (λ text. string_bytes text ≡ spec_fates.refused_by_all_text self.now flight recorded.now events.now) }
     {
         let mut text = self.say(&[
             words("the "),
-            words(what_word(told.kind)),
+            words(what_word(recorded.kind)),
             words(" (flight "),
             number(flight),
             words(") was refused by all that heard it: "),
@@ -159,30 +159,30 @@ impl<'a> Account<'a> {
     fn unheard_text(
         &self,
         flight: usize,
-        told: &TaleFlight,
+        recorded: &RecordedFlight,
         fate: &Fate,
     ) -> Result<String, AllocError>
-        ensures { IfOk result (λ text. string_bytes text ≡ spec_fates.unheard_text self.now flight told.now fate.now) }
+        ensures { IfOk result (λ text. string_bytes text ≡ spec_fates.unheard_text self.now flight recorded.now fate.now) }
     {
         if is_mute(fate) {
-            return self.unreached_text(flight, told, fate);
+            return self.unreached_text(flight, recorded, fate);
         }
         let hearings = self.index.hearings(flight);
-        self.refused_by_all_text(flight, told, &hearings[..hearings.len().min(3)])
+        self.refused_by_all_text(flight, recorded, &hearings[..hearings.len().min(3)])
     }
 
     /// A flight with its number, from whom to whom.
     #[tactic(auto, unfolding(crate::specs::Fates::way_text))]
-    pub fn way_text(&self, flight: usize, told: &TaleFlight) -> Result<String, AllocError>
-        ensures { IfOk result (λ text. string_bytes text ≡ spec_fates.way_text self.now flight told.now) }
+    pub fn way_text(&self, flight: usize, recorded: &RecordedFlight) -> Result<String, AllocError>
+        ensures { IfOk result (λ text. string_bytes text ≡ spec_fates.way_text self.now flight recorded.now) }
     {
         self.say(&[
             words("flight "),
             number(flight),
             words(" from "),
-            node(u32::from(told.from)),
+            node(u32::from(recorded.from)),
             words(" to "),
-            place(who_of(&told.target, self.homes, self.euis)),
+            place(who_of(&recorded.target, self.homes, self.euis)),
         ])
     }
 
@@ -191,11 +191,11 @@ impl<'a> Account<'a> {
     {
         match self.event(event) {
             None => false,
-            Some(told) => takes_counter(told.answer) && actor_of(&told.act) == node,
+            Some(recorded) => takes_counter(recorded.answer) && actor_of(&recorded.act) == node,
         }
     }
 
-    // The first of these events at which a node takes the counter of a frame, 0 where there is none.
+    // The first of these events at which a node takes the counter of a frame, 0 if there is none.
     fn taken_in(&self, node: u32, events: &[usize]) -> usize
         ensures { result ≡ spec_fates.taken_in self.now node events.now }
     {
@@ -333,12 +333,17 @@ impl<'a> Account<'a> {
     }
 
     #[tactic(auto, unfolding(crate::specs::Fates::missed_text))]
-    fn missed_text(&self, flight: usize, told: &TaleFlight, lot: &Lot) -> Result<String, AllocError>
-        ensures { IfOk result (λ text. string_bytes text ≡ spec_fates.missed_text self.now flight told.now lot.now) }
+    fn missed_text(
+        &self,
+        flight: usize,
+        recorded: &RecordedFlight,
+        course: &Course,
+    ) -> Result<String, AllocError>
+        ensures { IfOk result (λ text. string_bytes text ≡ spec_fates.missed_text self.now flight recorded.now course.now) }
     {
-        let way = self.way_text(flight, told)?;
-        let mut text = two_words(self.alloc, way.as_str(), missed_words(lot.overheard))?;
-        self.push_would(&mut text, flight, lot.to)?;
+        let way = self.way_text(flight, recorded)?;
+        let mut text = two_words(self.alloc, way.as_str(), missed_words(course.overheard))?;
+        self.push_would(&mut text, flight, course.to)?;
         Ok(text)
     }
 
@@ -346,12 +351,12 @@ impl<'a> Account<'a> {
     fn lost_text(
         &self,
         flight: usize,
-        told: &TaleFlight,
+        recorded: &RecordedFlight,
         event: usize,
     ) -> Result<String, AllocError>
-        ensures { IfOk result (λ text. string_bytes text ≡ spec_fates.lost_text self.now flight told.now event) }
+        ensures { IfOk result (λ text. string_bytes text ≡ spec_fates.lost_text self.now flight recorded.now event) }
     {
-        let way = self.way_text(flight, told)?;
+        let way = self.way_text(flight, recorded)?;
         self.say(&[
             words(way.as_str()),
             words(" was lost (event "),
@@ -401,26 +406,36 @@ impl<'a> Account<'a> {
         ])
     }
 
-    fn single_text(&self, flight: usize, told: &TaleFlight, lot: &Lot) -> Result<String, AllocError>
+    fn single_text(
+        &self,
+        flight: usize,
+        recorded: &RecordedFlight,
+        course: &Course,
+    ) -> Result<String, AllocError>
         ensures { IfOk result (λ text. string_bytes text
-            ≡ spec_fates.single_text lot.now.fate self.now flight told.now lot.now) }
+            ≡ spec_fates.single_text course.now.fate self.now flight recorded.now course.now) }
     {
-        match lot.fate {
-            Fate::Missed => self.missed_text(flight, told, lot),
-            Fate::Lost { event } => self.lost_text(flight, told, event),
+        match course.fate {
+            Fate::Missed => self.missed_text(flight, recorded, course),
+            Fate::Lost { event } => self.lost_text(flight, recorded, event),
             Fate::Refused { event } => self.refused_text(flight, event),
             Fate::Reported { event } => self.reported_text(event),
             Fate::WentOn { event } => self.taken_text(flight, event),
         }
     }
 
-    fn found_text(&self, flight: usize, told: &TaleFlight, lot: &Lot) -> Result<String, AllocError>
-        ensures { IfOk result (λ text. string_bytes text ≡ spec_fates.found_text self.now flight told.now lot.now) }
+    fn found_text(
+        &self,
+        flight: usize,
+        recorded: &RecordedFlight,
+        course: &Course,
+    ) -> Result<String, AllocError>
+        ensures { IfOk result (λ text. string_bytes text ≡ spec_fates.found_text self.now flight recorded.now course.now) }
     {
-        if is_to_all(&told.target) && !went_on(&lot.fate) {
-            return self.unheard_text(flight, told, &lot.fate);
+        if is_to_all(&recorded.target) && !went_on(&course.fate) {
+            return self.unheard_text(flight, recorded, &course.fate);
         }
-        self.single_text(flight, told, lot)
+        self.single_text(flight, recorded, course)
     }
 
     /// What became of a flight, by its number from 1.
@@ -428,12 +443,12 @@ impl<'a> Account<'a> {
     pub fn fate_text(&self, flight: usize) -> Result<String, AllocError>
         ensures { IfOk result (λ text. string_bytes text ≡ spec_fates.fate_text self.now flight) }
     {
-        let Some(told) = self.flight(flight) else {
+        let Some(recorded) = self.flight(flight) else {
             return String::from_str(self.alloc, "nothing went out");
         };
-        let Some(lot) = self.lot(flight) else {
+        let Some(course) = self.course(flight) else {
             return String::from_str(self.alloc, "nothing went out");
         };
-        self.found_text(flight, &told, &lot)
+        self.found_text(flight, &recorded, &course)
     }
 }

@@ -1,13 +1,15 @@
 //! What is looked up of a run again and again, found once.
 ghost use Rattle.std.specs.Prelude.{◌≡◌, ◌<◌, ◌^◌, IfOk, OnOk};
-ghost use Rattle.line_tale.specs.Lists.{changed_at};
-ghost use Rattle.line_tale.specs.Tales.{numbered};
-ghost use Rattle.line_tale.specs.Verdicts.{or_number};
+ghost use Rattle.line_record.specs.Lists.{changed_at};
+ghost use Rattle.line_record.specs.RunRecords.{numbered};
+ghost use Rattle.line_record.specs.Verdicts.{first_nonzero};
 ghost use Rattle.story_accounts.specs.Indexes as indexes;
 
 use crate::numbers::{Numbers, no_numbers, numbered, push_at, push_new_at};
 use frame_words::Gist;
-use line_tale::{Act, Lot, Tale, TaleEvent, TaleFlight, made_by, or_number, went_on};
+use line_record::{
+    Act, Course, RecordedEvent, RecordedFlight, RunRecord, first_nonzero, made_by, went_on,
+};
 use std::alloc::{AllocError, Global};
 use std::marker::Model;
 
@@ -46,15 +48,15 @@ impl Model for Index {
     } };
 }
 
-fn is_broken(lot: &Lot) -> bool
-    ensures { result ≡ indexes.is_broken lot.now }
+fn is_broken(course: &Course) -> bool
+    ensures { result ≡ indexes.is_broken course.now }
 {
-    lot.bears && !went_on(&lot.fate)
+    course.bears && !went_on(&course.fate)
 }
 
 // A send of a story, if it is its first.
 fn take_send(sends: &mut Vec<usize>, story: usize, send: usize)
-    ensures { sends.new.items ≡ changed_at story (λ old. or_number old send) sends.old.items }
+    ensures { sends.new.items ≡ changed_at story (λ old. first_nonzero old send) sends.old.items }
 {
     if story == 0 {
         return;
@@ -62,7 +64,7 @@ fn take_send(sends: &mut Vec<usize>, story: usize, send: usize)
     let Some(old) = sends.get(story - 1).copied() else {
         return;
     };
-    sends[story - 1] = or_number(old, send);
+    sends[story - 1] = first_nonzero(old, send);
 }
 
 fn take_sends(sends: &mut Vec<usize>, sent: &[usize])
@@ -82,29 +84,29 @@ fn sends_of(alloc: Global, count: usize, sent: &[usize]) -> Result<Vec<usize>, A
     Ok(sends)
 }
 
-fn push_broken(broken: &mut Vec<Numbers>, flight: usize, lot: &Lot) -> Result<(), AllocError>
-    ensures { OnOk result (broken.new.items ≡ indexes.broken_with flight lot.now broken.old.items) }
+fn push_broken(broken: &mut Vec<Numbers>, flight: usize, course: &Course) -> Result<(), AllocError>
+    ensures { OnOk result (broken.new.items ≡ indexes.broken_with flight course.now broken.old.items) }
 {
-    if !is_broken(lot) {
+    if !is_broken(course) {
         return Ok(());
     }
-    push_at(broken, lot.story, flight)
+    push_at(broken, course.story, flight)
 }
 
-fn push_all_broken(broken: &mut Vec<Numbers>, lots: &[Lot]) -> Result<(), AllocError>
-    ensures { OnOk result (broken.new.items ≡ indexes.broken_from 0 lots.now broken.old.items) }
+fn push_all_broken(broken: &mut Vec<Numbers>, courses: &[Course]) -> Result<(), AllocError>
+    ensures { OnOk result (broken.new.items ≡ indexes.broken_from 0 courses.now broken.old.items) }
 {
-    for (i, lot) in lots.iter().enumerate() {
-        push_broken(broken, i + 1, lot)?;
+    for (i, course) in courses.iter().enumerate() {
+        push_broken(broken, i + 1, course)?;
     }
     Ok(())
 }
 
-fn push_searches(searches: &mut Vec<Numbers>, lots: &[Lot]) -> Result<(), AllocError>
-    ensures { OnOk result (searches.new.items ≡ indexes.searches_from 0 lots.now searches.old.items) }
+fn push_searches(searches: &mut Vec<Numbers>, courses: &[Course]) -> Result<(), AllocError>
+    ensures { OnOk result (searches.new.items ≡ indexes.searches_from 0 courses.now searches.old.items) }
 {
-    for (i, lot) in lots.iter().enumerate() {
-        push_at(searches, lot.search, i + 1)?;
+    for (i, course) in courses.iter().enumerate() {
+        push_at(searches, course.search, i + 1)?;
     }
     Ok(())
 }
@@ -128,7 +130,7 @@ fn set_restart(restarts: &mut Vec<usize>, place: usize, event: usize)
     restarts[place - 1] = event;
 }
 
-fn take_restarts(restarts: &mut Vec<usize>, events: &[TaleEvent])
+fn take_restarts(restarts: &mut Vec<usize>, events: &[RecordedEvent])
     ensures { restarts.new.items ≡ indexes.restarts_from 0 events.now restarts.old.items }
 {
     for (i, event) in events.iter().enumerate() {
@@ -136,7 +138,11 @@ fn take_restarts(restarts: &mut Vec<usize>, events: &[TaleEvent])
     }
 }
 
-fn restarts_of(alloc: Global, nodes: usize, events: &[TaleEvent]) -> Result<Vec<usize>, AllocError>
+fn restarts_of(
+    alloc: Global,
+    nodes: usize,
+    events: &[RecordedEvent],
+) -> Result<Vec<usize>, AllocError>
     ensures { IfOk result (λ restarts. restarts.items ≡ indexes.restarts_of nodes events.now) }
 {
     let mut restarts = Vec::new(alloc);
@@ -157,7 +163,7 @@ fn begins_request(gist: &Gist) -> bool
 fn push_request(
     requests: &mut Vec<Numbers>,
     number: usize,
-    flight: &TaleFlight,
+    flight: &RecordedFlight,
 ) -> Result<(), AllocError>
     ensures { OnOk result (requests.new.items ≡ indexes.requests_with number flight.now requests.old.items) }
 {
@@ -167,7 +173,7 @@ fn push_request(
     push_at(requests, flight.from as usize + 1, number)
 }
 
-fn push_requests(requests: &mut Vec<Numbers>, flights: &[TaleFlight]) -> Result<(), AllocError>
+fn push_requests(requests: &mut Vec<Numbers>, flights: &[RecordedFlight]) -> Result<(), AllocError>
     ensures { OnOk result (requests.new.items ≡ indexes.requests_from 0 flights.now requests.old.items) }
 {
     for (i, flight) in flights.iter().enumerate() {
@@ -176,7 +182,7 @@ fn push_requests(requests: &mut Vec<Numbers>, flights: &[TaleFlight]) -> Result<
     Ok(())
 }
 
-fn push_hearings(hearings: &mut Vec<Numbers>, events: &[TaleEvent]) -> Result<(), AllocError>
+fn push_hearings(hearings: &mut Vec<Numbers>, events: &[RecordedEvent]) -> Result<(), AllocError>
     ensures { OnOk result (hearings.new.items ≡ indexes.hearings_from 0 events.now hearings.old.items) }
 {
     for (i, event) in events.iter().enumerate() {
@@ -200,11 +206,15 @@ fn push_owner(
 }
 
 // The stories of the flights that an event made have it.
-fn push_makers(events: &mut Vec<Numbers>, number: usize, lots: &[Lot]) -> Result<(), AllocError>
-    ensures { OnOk result (events.new.items ≡ indexes.makers_with number lots.now events.old.items) }
+fn push_makers(
+    events: &mut Vec<Numbers>,
+    number: usize,
+    courses: &[Course],
+) -> Result<(), AllocError>
+    ensures { OnOk result (events.new.items ≡ indexes.makers_with number courses.now events.old.items) }
 {
-    for lot in lots {
-        push_new_at(events, lot.story, number)?;
+    for course in courses {
+        push_new_at(events, course.story, number)?;
     }
     Ok(())
 }
@@ -213,33 +223,33 @@ fn push_makers(events: &mut Vec<Numbers>, number: usize, lots: &[Lot]) -> Result
 fn push_event(
     events: &mut Vec<Numbers>,
     place: usize,
-    event: &TaleEvent,
+    event: &RecordedEvent,
     owners: &[usize],
-    lots: &[Lot],
+    courses: &[Course],
 ) -> Result<(), AllocError>
     requires { place < 2 ^ 63 }
-    ensures { OnOk result (events.new.items ≡ indexes.event_with place event.now owners.now lots.now events.old.items) }
+    ensures { OnOk result (events.new.items ≡ indexes.event_with place event.now owners.now courses.now events.old.items) }
 {
     push_owner(events, place + 1, owners.get(place).copied())?;
-    push_makers(events, place + 1, made_by(event, lots))
+    push_makers(events, place + 1, made_by(event, courses))
 }
 
 fn push_events(
     events: &mut Vec<Numbers>,
-    all: &[TaleEvent],
+    all: &[RecordedEvent],
     owners: &[usize],
-    lots: &[Lot],
+    courses: &[Course],
 ) -> Result<(), AllocError>
-    ensures { OnOk result (events.new.items ≡ indexes.events_from 0 all.now owners.now lots.now events.old.items) }
+    ensures { OnOk result (events.new.items ≡ indexes.events_from 0 all.now owners.now courses.now events.old.items) }
 {
     for (i, event) in all.iter().enumerate() {
-        push_event(events, i, event, owners, lots)?;
+        push_event(events, i, event, owners, courses)?;
     }
     Ok(())
 }
 
 impl Index {
-    /// That of a run with so many stories and nodes: by what became of its flights, and the stories of its sends and of its events.
+    /// That of a run with this many stories and nodes: by what became of its flights, and the stories of its sends and of its events.
     ///
     /// It fails only where memory runs out.
     #[tactic(auto, unfolding(crate::specs::Indexes::index_of))]
@@ -247,28 +257,33 @@ impl Index {
         alloc: Global,
         count: usize,
         nodes: usize,
-        tale: &Tale,
-        lots: &[Lot],
+        run_record: &RunRecord,
+        courses: &[Course],
         sent: &[usize],
         owners: &[usize],
     ) -> Result<Index, AllocError>
-        ensures { IfOk result (λ index. index ≡ indexes.index_of count nodes tale.now.events.items tale.now.flights.items
-            lots.now sent.now owners.now) }
+        ensures { IfOk result (λ index. index ≡ indexes.index_of count nodes run_record.now.events.items run_record.now.flights.items
+            courses.now sent.now owners.now) }
     {
         let mut index = Index {
             sends: sends_of(alloc, count, sent)?,
             events: no_numbers(alloc, count)?,
             broken: no_numbers(alloc, count)?,
-            hearings: no_numbers(alloc, lots.len())?,
+            hearings: no_numbers(alloc, courses.len())?,
             requests: no_numbers(alloc, nodes)?,
-            searches: no_numbers(alloc, lots.len())?,
-            restarts: restarts_of(alloc, nodes, tale.events.as_slice())?,
+            searches: no_numbers(alloc, courses.len())?,
+            restarts: restarts_of(alloc, nodes, run_record.events.as_slice())?,
         };
-        push_events(&mut index.events, tale.events.as_slice(), owners, lots)?;
-        push_all_broken(&mut index.broken, lots)?;
-        push_hearings(&mut index.hearings, tale.events.as_slice())?;
-        push_requests(&mut index.requests, tale.flights.as_slice())?;
-        push_searches(&mut index.searches, lots)?;
+        push_events(
+            &mut index.events,
+            run_record.events.as_slice(),
+            owners,
+            courses,
+        )?;
+        push_all_broken(&mut index.broken, courses)?;
+        push_hearings(&mut index.hearings, run_record.events.as_slice())?;
+        push_requests(&mut index.requests, run_record.flights.as_slice())?;
+        push_searches(&mut index.searches, courses)?;
         Ok(index)
     }
 

@@ -50,7 +50,7 @@ impl Marks {
         Ok(())
     }
 
-    /// The mark of a sender, by its short address. None where there is none.
+    /// The mark of a sender, by its short address. None if there is none.
     pub fn of(&self, from: u16) -> Option<u32>
         ensures { result ≡ peer_marks.mark_in from self.now }
     {

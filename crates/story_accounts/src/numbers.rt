@@ -1,7 +1,7 @@
 //! Numbers of events and flights, in lists by story and by flight.
 ghost use Rattle.std.specs.Prelude.{◌≡◌, ◌-◌, [], IfOk, OnOk, length, slice_get};
-ghost use Rattle.line_tale.specs.Lists.{changed_at};
-ghost use Rattle.line_tale.specs.Tales.{numbered};
+ghost use Rattle.line_record.specs.Lists.{changed_at};
+ghost use Rattle.line_record.specs.RunRecords.{numbered};
 ghost use Rattle.story_accounts.specs.Indexes as indexes;
 
 use std::alloc::{AllocError, Global};
@@ -66,7 +66,7 @@ impl Numbers {
     }
 }
 
-/// So many lists without a number.
+/// This many lists without a number.
 pub fn no_numbers(alloc: Global, count: usize) -> Result<Vec<Numbers>, AllocError>
     ensures { IfOk result (λ lists. lists.items ≡ indexes.nothing_by count) }
 {
@@ -97,7 +97,7 @@ pub fn push_new_at(lists: &mut Vec<Numbers>, at: usize, number: usize) -> Result
     lists[at - 1].push_new(number)
 }
 
-/// What stands in a list under a number from 1. None where there is none.
+/// What stands in a list under a number from 1. None if there is none.
 pub fn numbered<T: Copy>(items: &[T], number: usize) -> Option<T>
     ensures { result ≡ numbered items.now number }
 {

@@ -7,7 +7,7 @@ ghost use Rattle.story_accounts.specs.Outcomes as outcomes;
 use crate::account::Account;
 use crate::fates::two_words;
 use frame_words::Gist;
-use line_tale::{Act, Kept, KeptEnd, Story, StoryKind, TaleEvent, TaleFlight, Verdict};
+use line_record::{Act, Kept, KeptEnd, RecordedEvent, RecordedFlight, Story, StoryKind, Verdict};
 use sentence_parts::{node, number, push_parts, sentence, words};
 use std::alloc::{AllocError, Global};
 
@@ -34,12 +34,12 @@ fn hops_left(gist: &Gist) -> u8
     }
 }
 
-fn hops_by(flight: Option<TaleFlight>) -> u8
+fn hops_by(flight: Option<RecordedFlight>) -> u8
     ensures { result ≡ outcomes.hops_by flight }
 {
     match flight {
         None => 0,
-        Some(told) => 15u8.saturating_sub(hops_left(&told.gist)),
+        Some(recorded) => 15u8.saturating_sub(hops_left(&recorded.gist)),
     }
 }
 
@@ -361,10 +361,10 @@ impl<'a> Account<'a> {
         Ok(text)
     }
 
-    fn hops_of(&self, told: &TaleEvent) -> u8
-        ensures { result ≡ outcomes.hops_of self.now told.now }
+    fn hops_of(&self, recorded: &RecordedEvent) -> u8
+        ensures { result ≡ outcomes.hops_of self.now recorded.now }
     {
-        hops_by(self.flight(delivered(&told.act)))
+        hops_by(self.flight(delivered(&recorded.act)))
     }
 
     #[tactic(auto, unfolding(crate::specs::Outcomes::came_at_text))]
@@ -372,12 +372,12 @@ impl<'a> Account<'a> {
         &self,
         story: &Story,
         event: usize,
-        told: &TaleEvent,
+        recorded: &RecordedEvent,
     ) -> Result<String, AllocError>
-        ensures { IfOk result (λ text. string_bytes text ≡ outcomes.came_at_text self.now story.now event told.now) }
+        ensures { IfOk result (λ text. string_bytes text ≡ outcomes.came_at_text self.now story.now event recorded.now) }
     {
-        let hops = self.hops_of(told);
-        let later = told.clock.saturating_sub(self.clock_at(story.first));
+        let hops = self.hops_of(recorded);
+        let later = recorded.clock.saturating_sub(self.clock_at(story.first));
         let mut text = self.say(&[words("came at event "), number(event)])?;
         push_over(&mut text, self.alloc, hops)?;
         push_later(&mut text, self.alloc, later)?;
@@ -388,7 +388,7 @@ impl<'a> Account<'a> {
         ensures { IfOk result (λ text. string_bytes text ≡ outcomes.came_text self.now story.now event) }
     {
         match self.event(event) {
-            Some(told) => self.came_at_text(story, event, &told),
+            Some(recorded) => self.came_at_text(story, event, &recorded),
             None => Ok(String::new(self.alloc)),
         }
     }

@@ -10,8 +10,8 @@ use crate::waiting::{has_taken, until_of};
 use frame_words::FrameTarget;
 use itoa::Buffer;
 use line_events::Answer;
+use line_record::{Fate, Kept, Story, Verdict, is_for_another, is_good};
 use line_script::answer_word;
-use line_tale::{Fate, Kept, Story, Verdict, is_for_another, is_good};
 use sentence_parts::decimal_width;
 use std::alloc::AllocError;
 
@@ -86,7 +86,7 @@ fn push_blanks(text: &mut String, count: usize) -> Result<(), AllocError>
     Ok(())
 }
 
-/// Appends a number at the end of a field of so many signs.
+/// Appends a number at the end of a field of this many signs.
 pub fn push_padded(text: &mut String, number: usize, width: usize) -> Result<(), AllocError>
     ensures { OnOk result (string_bytes text.new ≡ string_bytes text.old ++ sections.padded number width) }
 {
@@ -95,7 +95,7 @@ pub fn push_padded(text: &mut String, number: usize, width: usize) -> Result<(),
     text.push_str(digits.format(number))
 }
 
-/// Appends words at the start of a field of so many octets.
+/// Appends words at the start of a field of this many octets.
 pub fn push_widened(text: &mut String, word: &str, width: usize) -> Result<(), AllocError>
     ensures { OnOk result (string_bytes text.new ≡ string_bytes text.old ++ sections.widened word.now width) }
 {
@@ -140,13 +140,13 @@ impl<'a> Account<'a> {
     fn refusal_word(&self, event: usize) -> &'static str
         ensures { result.now ≡ sections.refusal_at self.now event }
     {
-        let Some(told) = self.event(event) else {
+        let Some(recorded) = self.event(event) else {
             return "";
         };
-        if is_for_another(told.answer) {
+        if is_for_another(recorded.answer) {
             return "the next node had left, or has another address";
         }
-        answer_word(told.answer)
+        answer_word(recorded.answer)
     }
 
     fn fate_reason(&self, fate: &Fate, target: &FrameTarget) -> &'static str
@@ -165,13 +165,13 @@ impl<'a> Account<'a> {
     fn flight_reason(&self, flight: usize) -> &'static str
         ensures { result.now ≡ sections.flight_reason self.now flight }
     {
-        let Some(told) = self.flight(flight) else {
+        let Some(recorded) = self.flight(flight) else {
             return "nothing went out";
         };
-        let Some(lot) = self.lot(flight) else {
+        let Some(course) = self.course(flight) else {
             return "nothing went out";
         };
-        self.fate_reason(&lot.fate, &told.target)
+        self.fate_reason(&course.fate, &recorded.target)
     }
 
     fn request_reason(&self, request: usize, until: usize) -> Result<&'static str, AllocError>
@@ -187,11 +187,11 @@ impl<'a> Account<'a> {
     fn kept_reason(&self, story: &Story, kept: &Kept) -> Result<&'static str, AllocError>
         ensures { IfOk result (λ words. words.now ≡ sections.kept_reason self.now story.now kept.now) }
     {
-        let Some(told) = self.event(kept.event) else {
+        let Some(recorded) = self.event(kept.event) else {
             return Ok("nothing went out");
         };
-        let until = until_of(&kept.end, self.tale.events.len());
-        self.request_reason(self.request_of(story, kept, &told), until)
+        let until = until_of(&kept.end, self.run_record.events.len());
+        self.request_reason(self.request_of(story, kept, &recorded), until)
     }
 
     fn loose_reason(&self, story: &Story, last: usize) -> Result<&'static str, AllocError>

@@ -1,13 +1,13 @@
 //! What a search for a route reached, up to an event: which nodes took a copy of the request, who refused it, whether it was answered, and the reply that
 //! did not come back.
 ghost use Rattle.std.specs.Prelude.{◌≡◌, IfOk, OnOk};
-ghost use Rattle.line_tale.specs.Lists.{changed_at};
+ghost use Rattle.line_record.specs.Lists.{changed_at};
 ghost use Rattle.story_accounts.specs.Searches as searches;
 
 use crate::account::Account;
 use frame_words::Gist;
 use line_events::Answer;
-use line_tale::{Fate, Lot, TaleEvent, TaleFlight, actor_of, or_number};
+use line_record::{Course, Fate, RecordedEvent, RecordedFlight, actor_of, first_nonzero};
 use std::alloc::{AllocError, Global};
 use std::marker::Model;
 
@@ -17,7 +17,7 @@ pub const REFUSED: u8 = 1;
 /// A node that took a request: it sent it on, or answered it.
 pub const TOOK: u8 = 2;
 
-/// So many refusals are told.
+/// This many refusals are listed.
 const MOST_REFUSALS: usize = 3;
 
 /// What a search reached. Events and flights are meant by their numbers from 1.
@@ -29,7 +29,7 @@ pub struct Reach {
     refusals: Vec<usize>,
     // The first event at which it was answered, 0 where it was not.
     answered: usize,
-    // The last reply that was not taken, 0 where there is none.
+    // The last reply that was not taken, 0 if there is none.
     reply: usize,
 }
 
@@ -95,13 +95,13 @@ fn answered_at(answer: Answer, event: usize, before: usize) -> usize
     ensures { result ≡ searches.answered_at answer event before }
 {
     if is_answered(answer) {
-        return or_number(before, event);
+        return first_nonzero(before, event);
     }
     before
 }
 
 impl Reach {
-    /// That of nothing, among so many nodes. It fails only where memory runs out.
+    /// That of nothing, among this many nodes. It fails only where memory runs out.
     fn new(alloc: Global, nodes: usize) -> Result<Reach, AllocError>
         ensures { IfOk result (λ reach. reach ≡ searches.no_reach nodes) }
     {
@@ -136,7 +136,7 @@ impl Reach {
         self.answered
     }
 
-    /// The last reply that was not taken, 0 where there is none.
+    /// The last reply that was not taken, 0 if there is none.
     pub fn reply(&self) -> usize
         ensures { result ≡ self.now.reply }
     {
@@ -144,14 +144,14 @@ impl Reach {
     }
 
     // A node hears the request at an event of this number.
-    fn hear(&mut self, event: usize, told: &TaleEvent) -> Result<(), AllocError>
-        ensures { OnOk result (self.new ≡ searches.heard event told.now self.old) }
+    fn hear(&mut self, event: usize, recorded: &RecordedEvent) -> Result<(), AllocError>
+        ensures { OnOk result (self.new ≡ searches.heard event recorded.now self.old) }
     {
-        let state = state_of(told.answer);
-        let at = actor_of(&told.act) as usize + 1;
+        let state = state_of(recorded.answer);
+        let at = actor_of(&recorded.act) as usize + 1;
         set_state(&mut self.states, at, state);
         push_refusal(&mut self.refusals, state == REFUSED, event)?;
-        self.answered = answered_at(told.answer, event, self.answered);
+        self.answered = answered_at(recorded.answer, event, self.answered);
         Ok(())
     }
 
@@ -182,18 +182,18 @@ impl<'a> Account<'a> {
     {
         match self.event(until) {
             None => false,
-            Some(told) => flight < told.first_flight as usize + told.flights as usize,
+            Some(recorded) => flight < recorded.first_flight as usize + recorded.flights as usize,
         }
     }
 
     fn hear_at(&self, reach: &mut Reach, event: usize, until: usize) -> Result<(), AllocError>
         ensures { OnOk result (reach.new ≡ searches.heard_at self.now event until reach.old) }
     {
-        let Some(told) = self.event(event) else {
+        let Some(recorded) = self.event(event) else {
             return Ok(());
         };
         if event <= until {
-            reach.hear(event, &told)?;
+            reach.hear(event, &recorded)?;
         }
         Ok(())
     }
@@ -210,23 +210,23 @@ impl<'a> Account<'a> {
     fn is_reply_missing(&self, flight: usize, until: usize) -> bool
         ensures { result ≡ searches.is_reply_missing self.now flight until }
     {
-        let lot: Option<Lot> = self.lot(flight);
-        match lot {
+        let course: Option<Course> = self.course(flight);
+        match course {
             None => false,
-            Some(lot) => self.is_made_by(until, flight) && is_missing(&lot.fate, until),
+            Some(course) => self.is_made_by(until, flight) && is_missing(&course.fate, until),
         }
     }
 
     fn follow_by(
         &self,
         reach: &mut Reach,
-        told: &TaleFlight,
+        recorded: &RecordedFlight,
         flight: usize,
         until: usize,
     ) -> Result<(), AllocError>
-        ensures { OnOk result (reach.new ≡ searches.followed_by told.now.gist self.now flight until reach.old) }
+        ensures { OnOk result (reach.new ≡ searches.followed_by recorded.now.gist self.now flight until reach.old) }
     {
-        match told.gist {
+        match recorded.gist {
             Gist::Seeks { .. } => self.hear_all(reach, self.index.hearings(flight), until),
             Gist::Replies { .. } => {
                 reach.miss(flight, self.is_reply_missing(flight, until));
@@ -241,7 +241,7 @@ impl<'a> Account<'a> {
     {
         match self.flight(flight) {
             None => Ok(()),
-            Some(told) => self.follow_by(reach, &told, flight, until),
+            Some(recorded) => self.follow_by(reach, &recorded, flight, until),
         }
     }
 

@@ -2,7 +2,7 @@
 ghost use Rattle.std.specs.Prelude.{◌≡◌};
 ghost use Rattle.story_accounts.specs.Sections as sections;
 
-use line_tale::StoryKind;
+use line_record::StoryKind;
 
 /// Which stories are accounted for.
 #[derive(Clone, Copy, Debug, PartialEq, Eq)]

@@ -11,12 +11,12 @@ use crate::section::{
 };
 use crate::titles::push_capital;
 use line_events::Answer;
+use line_record::{Course, RecordedEvent, Story, StoryKind, is_for_another, made_by};
 use line_script::answer_word;
-use line_tale::{Lot, Story, StoryKind, TaleEvent, is_for_another, made_by};
 use sentence_parts::{number, push_parts, sentence, words};
 use std::alloc::{AllocError, Global};
 
-/// More stories than so many are many.
+/// More stories than this many are many.
 const MANY: usize = 20;
 
 fn refusal_mark(alloc: Global, answer: Answer) -> Result<String, AllocError>
@@ -136,11 +136,11 @@ fn is_owner(owner: Option<usize>, number: usize) -> bool
 }
 
 // The place of the first flight of a story among some.
-fn first_of_story(lots: &[Lot], number: usize) -> Option<usize>
-    ensures value { result ≡ position (sections.is_of number) lots.now }
-    ensures bound { IfSome result (λ p. p < length lots.now) }
+fn first_of_story(courses: &[Course], number: usize) -> Option<usize>
+    ensures value { result ≡ position (sections.is_of number) courses.now }
+    ensures bound { IfSome result (λ p. p < length courses.now) }
 {
-    lots.iter().position(|lot| lot.story == number)
+    courses.iter().position(|course| course.story == number)
 }
 
 fn push_left_by(
@@ -209,10 +209,10 @@ impl<'a> Account<'a> {
     }
 
     // What came to a node that it is not for has no words.
-    fn is_shown(&self, event: usize, told: &TaleEvent) -> bool
-        ensures { result ≡ sections.is_shown self.now event told.now }
+    fn is_shown(&self, event: usize, recorded: &RecordedEvent) -> bool
+        ensures { result ≡ sections.is_shown self.now event recorded.now }
     {
-        !is_for_another(told.answer) || !self.why(event).is_empty()
+        !is_for_another(recorded.answer) || !self.why(event).is_empty()
     }
 
     #[tactic(auto, unfolding(crate::specs::Sections::event_line))]
@@ -220,25 +220,25 @@ impl<'a> Account<'a> {
         &self,
         text: &mut String,
         event: usize,
-        told: &TaleEvent,
+        recorded: &RecordedEvent,
     ) -> Result<(), AllocError>
-        ensures { OnOk result (string_bytes text.new ≡ string_bytes text.old ++ sections.event_line self.now event told.now) }
+        ensures { OnOk result (string_bytes text.new ≡ string_bytes text.old ++ sections.event_line self.now event recorded.now) }
     {
-        let mark = refusal_mark(self.alloc, told.answer)?;
+        let mark = refusal_mark(self.alloc, recorded.answer)?;
         let why = self.why(event);
-        push_event_by(text, self.alloc, event, told.line, why, mark.as_str())
+        push_event_by(text, self.alloc, event, recorded.line, why, mark.as_str())
     }
 
     fn push_event(&self, text: &mut String, event: usize) -> Result<(), AllocError>
         ensures { OnOk result (string_bytes text.new ≡ string_bytes text.old ++ sections.event_text self.now event) }
     {
-        let Some(told) = self.event(event) else {
+        let Some(recorded) = self.event(event) else {
             return Ok(());
         };
-        if !self.is_shown(event, &told) {
+        if !self.is_shown(event, &recorded) {
             return Ok(());
         }
-        self.push_event_line(text, event, &told)
+        self.push_event_line(text, event, &recorded)
     }
 
     // What left of a story at an event of another one.
@@ -246,23 +246,23 @@ impl<'a> Account<'a> {
         &self,
         text: &mut String,
         event: usize,
-        told: &TaleEvent,
+        recorded: &RecordedEvent,
         number: usize,
         story: &Story,
     ) -> Result<(), AllocError>
         ensures { OnOk result (string_bytes text.new
-            ≡ string_bytes text.old ++ sections.left_text self.now event told.now number story.now) }
+            ≡ string_bytes text.old ++ sections.left_text self.now event recorded.now number story.now) }
     {
-        let made = made_by(told, self.lots);
+        let made = made_by(recorded, self.courses);
         match first_of_story(made, number) {
             None => Ok(()),
             Some(place) => {
-                let flight = told.first_flight as usize + place;
+                let flight = recorded.first_flight as usize + place;
                 push_left_by(
                     text,
                     self.alloc,
                     event,
-                    told.line,
+                    recorded.line,
                     left_words(story.kind),
                     flight,
                 )
@@ -286,7 +286,7 @@ impl<'a> Account<'a> {
         }
         match self.event(event) {
             None => Ok(()),
-            Some(told) => self.push_left(text, event, &told, number, story),
+            Some(recorded) => self.push_left(text, event, &recorded, number, story),
         }
     }
 
@@ -352,7 +352,7 @@ impl<'a> Account<'a> {
         !self.came_well(number) || !is_brief(chosen)
     }
 
-    // A story of so many.
+    // A story of this many.
     #[tactic(auto, unfolding(crate::specs::Sections::entry_text))]
     fn push_entry(
         &self,

@@ -3,7 +3,7 @@ ghost use Rattle.std.specs.Prelude.{◌≡◌, ◌++◌, IfOk, OnOk, string_byte
 ghost use Rattle.story_accounts.specs.Titles as titles;
 
 use crate::account::Account;
-use line_tale::{Act, Story};
+use line_record::{Act, Story};
 use sentence_parts::{node, number, sentence, words};
 use std::alloc::{AllocError, Global};
 
@@ -145,7 +145,7 @@ impl<'a> Account<'a> {
     {
         let send = self.index.send(number);
         match self.event(story.first) {
-            Some(told) => title_by(self.alloc, &told.act, send),
+            Some(recorded) => title_by(self.alloc, &recorded.act, send),
             None => Ok(String::new(self.alloc)),
         }
     }

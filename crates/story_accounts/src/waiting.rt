@@ -6,8 +6,9 @@ use crate::account::Account;
 use crate::fates::is_mute;
 use crate::searches::{REFUSED, Reach, TOOK};
 use frame_words::Gist;
-use line_tale::{
-    Act, Fate, Kept, KeptEnd, Lot, Story, StoryKind, TaleEvent, TaleFlight, made_by, or_number,
+use line_record::{
+    Act, Course, Fate, Kept, KeptEnd, RecordedEvent, RecordedFlight, Story, StoryKind,
+    first_nonzero, made_by,
 };
 use sentence_parts::{node, number, push_parts, words};
 use std::alloc::{AllocError, Global};
@@ -21,12 +22,12 @@ fn is_sought(wanted: usize, gist: &Gist) -> bool
     }
 }
 
-fn seeks(wanted: usize, flight: Option<TaleFlight>) -> bool
+fn seeks(wanted: usize, flight: Option<RecordedFlight>) -> bool
     ensures { result ≡ waits.seeks wanted flight }
 {
     match flight {
         None => false,
-        Some(told) => is_sought(wanted, &told.gist),
+        Some(recorded) => is_sought(wanted, &recorded.gist),
     }
 }
 
@@ -39,7 +40,7 @@ fn begins_search(gist: &Gist) -> bool
     }
 }
 
-fn first_request(made: &[TaleFlight]) -> Option<usize>
+fn first_request(made: &[RecordedFlight]) -> Option<usize>
     ensures value { result ≡ position (λ f. waits.begins_search f.gist) made.now }
     ensures bound { IfSome result (λ p. p < length made.now) }
 {
@@ -62,7 +63,7 @@ fn send_word(send: usize) -> &'static str
     "send "
 }
 
-/// The event up to which something was kept, among so many.
+/// The event up to which something was kept, among this many.
 pub fn until_of(end: &KeptEnd, count: usize) -> usize
     ensures { result ≡ waits.until_of end.now count }
 {
@@ -314,12 +315,12 @@ fn push_behind(
 }
 
 impl<'a> Account<'a> {
-    /// The clock at an event, 0 where there is none.
+    /// The clock at an event, 0 if there is none.
     pub fn clock_at(&self, event: usize) -> u64
         ensures { result ≡ waits.clock_at self.now event }
     {
         match self.event(event) {
-            Some(told) => told.clock,
+            Some(recorded) => recorded.clock,
             None => 0,
         }
     }
@@ -329,20 +330,20 @@ impl<'a> Account<'a> {
         &self,
         text: &mut String,
         flight: usize,
-        told: &TaleFlight,
-        lot: &Lot,
+        recorded: &RecordedFlight,
+        course: &Course,
     ) -> Result<(), AllocError>
         ensures { OnOk result (string_bytes text.new
-            ≡ string_bytes text.old ++ waits.reply_by lot.now.fate self.now flight told.now lot.now) }
+            ≡ string_bytes text.old ++ waits.reply_by course.now.fate self.now flight recorded.now course.now) }
     {
-        match lot.fate {
+        match course.fate {
             Fate::Lost { event } => {
-                let way = self.way_text(flight, told)?;
+                let way = self.way_text(flight, recorded)?;
                 text.push_str(way.as_str())?;
                 push_lost(text, self.alloc, event)
             }
             Fate::WentOn { event } => {
-                let way = self.way_text(flight, told)?;
+                let way = self.way_text(flight, recorded)?;
                 text.push_str(way.as_str())?;
                 push_late(text, self.alloc, event)
             }
@@ -357,13 +358,13 @@ impl<'a> Account<'a> {
     fn push_reply(&self, text: &mut String, flight: usize) -> Result<(), AllocError>
         ensures { OnOk result (string_bytes text.new ≡ string_bytes text.old ++ waits.reply_text self.now flight) }
     {
-        let Some(told) = self.flight(flight) else {
+        let Some(recorded) = self.flight(flight) else {
             return Ok(());
         };
-        let Some(lot) = self.lot(flight) else {
+        let Some(course) = self.course(flight) else {
             return Ok(());
         };
-        self.push_reply_by(text, flight, &told, &lot)
+        self.push_reply_by(text, flight, &recorded, &course)
     }
 
     #[tactic(auto, unfolding(crate::specs::Waits::answer_text))]
@@ -383,16 +384,16 @@ impl<'a> Account<'a> {
         &self,
         text: &mut String,
         request: usize,
-        told: &TaleFlight,
+        recorded: &RecordedFlight,
     ) -> Result<(), AllocError>
-        ensures { OnOk result (string_bytes text.new ≡ string_bytes text.old ++ waits.unheard_text self.now request told.now) }
+        ensures { OnOk result (string_bytes text.new ≡ string_bytes text.old ++ waits.unheard_text self.now request recorded.now) }
     {
-        let Some(lot) = self.lot(request) else {
+        let Some(course) = self.course(request) else {
             return Ok(());
         };
-        let unreached = self.unreached_text(request, told, &lot.fate)?;
+        let unreached = self.unreached_text(request, recorded, &course.fate)?;
         text.push_str(unreached.as_str())?;
-        text.push_str(before_words(is_mute(&lot.fate)))
+        text.push_str(before_words(is_mute(&course.fate)))
     }
 
     #[tactic(auto, unfolding(crate::specs::Waits::refused_text))]
@@ -401,14 +402,14 @@ impl<'a> Account<'a> {
         text: &mut String,
         request: usize,
         reach: &Reach,
-        told: &TaleFlight,
+        recorded: &RecordedFlight,
     ) -> Result<(), AllocError>
-        ensures { OnOk result (string_bytes text.new ≡ string_bytes text.old ++ waits.refused_text self.now request reach.now told.now) }
+        ensures { OnOk result (string_bytes text.new ≡ string_bytes text.old ++ waits.refused_text self.now request reach.now recorded.now) }
     {
         if reach.refusals().is_empty() {
-            return self.push_unheard(text, request, told);
+            return self.push_unheard(text, request, recorded);
         }
-        let all = self.refused_by_all_text(request, told, reach.refusals())?;
+        let all = self.refused_by_all_text(request, recorded, reach.refusals())?;
         text.push_str(all.as_str())
     }
 
@@ -418,14 +419,14 @@ impl<'a> Account<'a> {
         text: &mut String,
         request: usize,
         reach: &Reach,
-        told: &TaleFlight,
+        recorded: &RecordedFlight,
     ) -> Result<(), AllocError>
-        ensures { OnOk result (string_bytes text.new ≡ string_bytes text.old ++ waits.unanswered_text self.now request reach.now told.now) }
+        ensures { OnOk result (string_bytes text.new ≡ string_bytes text.old ++ waits.unanswered_text self.now request reach.now recorded.now) }
     {
         if has_taken(reach.states()) {
-            return push_reached(text, self.alloc, reach.states(), u32::from(told.from));
+            return push_reached(text, self.alloc, reach.states(), u32::from(recorded.from));
         }
-        self.push_refused(text, request, reach, told)
+        self.push_refused(text, request, reach, recorded)
     }
 
     // Why a search up to an event gave no route.
@@ -439,19 +440,19 @@ impl<'a> Account<'a> {
         }
         match self.flight(request) {
             None => Ok(()),
-            Some(told) => self.push_unanswered(text, request, &reach, &told),
+            Some(recorded) => self.push_unanswered(text, request, &reach, &recorded),
         }
     }
 
     // The request that an event makes itself, 0 where it makes none.
     #[tactic(auto, unfolding(crate::specs::Waits::own_request))]
-    fn own_request(&self, told: &TaleEvent) -> usize
-        ensures { result ≡ waits.own_request self.now told.now }
+    fn own_request(&self, recorded: &RecordedEvent) -> usize
+        ensures { result ≡ waits.own_request self.now recorded.now }
     {
-        let made = made_by(told, self.tale.flights.as_slice());
+        let made = made_by(recorded, self.run_record.flights.as_slice());
         match first_request(made) {
             None => 0,
-            Some(place) => told.first_flight as usize + place,
+            Some(place) => recorded.first_flight as usize + place,
         }
     }
 
@@ -467,16 +468,16 @@ impl<'a> Account<'a> {
         found
     }
 
-    // The last request of a node before an event, for the address of another one; 0 where there is none.
+    // The last request of a node before an event, for the address of another one; 0 if there is none.
     #[tactic(auto, unfolding(crate::specs::Waits::request_for))]
-    fn request_before(&self, told: &TaleEvent, node: u32, to: u32) -> usize
-        ensures { result ≡ waits.request_for (waits.address_of self.now.homes to) self.now told.now node }
+    fn request_before(&self, recorded: &RecordedEvent, node: u32, to: u32) -> usize
+        ensures { result ≡ waits.request_for (waits.address_of self.now.homes to) self.now recorded.now node }
     {
         let Some(wanted) = address_of(self.homes, to) else {
             return 0;
         };
         let requests = self.index.requests(node);
-        self.request_in(requests, wanted, told.first_flight as usize)
+        self.request_in(requests, wanted, recorded.first_flight as usize)
     }
 
     // The node to which a message of a story goes that waits at a node.
@@ -498,12 +499,12 @@ impl<'a> Account<'a> {
     fn agent_of(&self, story: &Story) -> u32
         ensures { result ≡ waits.agent_of self.now story.now }
     {
-        let Some(told) = self.event(story.first) else {
+        let Some(recorded) = self.event(story.first) else {
             return story.person;
         };
-        match self.lot(told.first_flight as usize) {
+        match self.course(recorded.first_flight as usize) {
             None => story.person,
-            Some(lot) => lot.to.unwrap_or(story.person),
+            Some(course) => course.to.unwrap_or(story.person),
         }
     }
 
@@ -519,8 +520,8 @@ impl<'a> Account<'a> {
     fn owner_of(&self, flight: usize) -> usize
         ensures { result ≡ waits.owner_of self.now flight }
     {
-        match self.lot(flight) {
-            Some(lot) => lot.story,
+        match self.course(flight) {
+            Some(course) => course.story,
             None => 0,
         }
     }
@@ -534,22 +535,22 @@ impl<'a> Account<'a> {
         }
         let story = self.owner_of(request);
         let send = self.index.send(story);
-        let first = or_number(send, self.first_of(story));
+        let first = first_nonzero(send, self.first_of(story));
         push_behind(text, self.alloc, send_word(send), first, request)?;
         self.push_search(text, request, until)
     }
 
-    /// The request for which something of a story waits that began to at an event, 0 where there is none: of the event itself, or of its node before.
+    /// The request for which something of a story waits that began to at an event, 0 if there is none: of the event itself, or of its node before.
     #[tactic(auto, unfolding(crate::specs::Waits::request_of))]
-    pub fn request_of(&self, story: &Story, kept: &Kept, told: &TaleEvent) -> usize
-        ensures { result ≡ waits.request_of self.now story.now kept.now told.now }
+    pub fn request_of(&self, story: &Story, kept: &Kept, recorded: &RecordedEvent) -> usize
+        ensures { result ≡ waits.request_of self.now story.now kept.now recorded.now }
     {
-        let own = self.own_request(told);
+        let own = self.own_request(recorded);
         if own > 0 {
             return own;
         }
-        let to = self.asked_by(&told.act, story, kept);
-        self.request_before(told, kept.node, to)
+        let to = self.asked_by(&recorded.act, story, kept);
+        self.request_before(recorded, kept.node, to)
     }
 
     #[tactic(auto, unfolding(crate::specs::Waits::cause_at))]
@@ -558,17 +559,17 @@ impl<'a> Account<'a> {
         text: &mut String,
         story: &Story,
         kept: &Kept,
-        told: &TaleEvent,
+        recorded: &RecordedEvent,
     ) -> Result<(), AllocError>
-        ensures { OnOk result (string_bytes text.new ≡ string_bytes text.old ++ waits.cause_at self.now story.now kept.now told.now) }
+        ensures { OnOk result (string_bytes text.new ≡ string_bytes text.old ++ waits.cause_at self.now story.now kept.now recorded.now) }
     {
-        let until = until_of(&kept.end, self.tale.events.len());
-        let own = self.own_request(told);
+        let until = until_of(&kept.end, self.run_record.events.len());
+        let own = self.own_request(recorded);
         if own > 0 {
             return self.push_search(text, own, until);
         }
-        let to = self.asked_by(&told.act, story, kept);
-        self.push_behind(text, self.request_before(told, kept.node, to), until)
+        let to = self.asked_by(&recorded.act, story, kept);
+        self.push_behind(text, self.request_before(recorded, kept.node, to), until)
     }
 
     /// Appends why no route came for what a story waited for.
@@ -585,7 +586,7 @@ impl<'a> Account<'a> {
     {
         match self.event(kept.event) {
             None => Ok(()),
-            Some(told) => self.push_cause_at(text, story, kept, &told),
+            Some(recorded) => self.push_cause_at(text, story, kept, &recorded),
         }
     }
 

@@ -8,26 +8,28 @@ use crate::fates::is_mute;
 use crate::groups::{Group, join, largest_first};
 use crate::reasons::{push_if, push_padded, push_widened};
 use crate::section::{Chosen, SECTIONS, is_part};
-use line_tale::{TaleEvent, is_refused};
+use line_record::{RecordedEvent, is_refused};
 use sentence_parts::{number, push_parts, words};
 use std::alloc::{AllocError, Global};
 
-/// So many flights that never came are named.
+/// This many flights that never came are named.
 const MOST: usize = 20;
 
-fn is_maker(flight: usize, told: &TaleEvent) -> bool
-    ensures { result ≡ sections.is_maker flight told.now }
+fn is_maker(flight: usize, recorded: &RecordedEvent) -> bool
+    ensures { result ≡ sections.is_maker flight recorded.now }
 {
-    let first = told.first_flight as usize;
-    first <= flight && flight - first < told.flights as usize
+    let first = recorded.first_flight as usize;
+    first <= flight && flight - first < recorded.flights as usize
 }
 
 // The place of the event that made a flight.
-fn maker_place(events: &[TaleEvent], flight: usize) -> Option<usize>
+fn maker_place(events: &[RecordedEvent], flight: usize) -> Option<usize>
     ensures value { result ≡ position (sections.is_maker flight) events.now }
     ensures bound { IfSome result (λ p. p < length events.now) }
 {
-    events.iter().position(|told| is_maker(flight, told))
+    events
+        .iter()
+        .position(|recorded| is_maker(flight, recorded))
 }
 
 fn push_refusals_head(text: &mut String, alloc: Global, count: usize) -> Result<(), AllocError>
@@ -68,7 +70,7 @@ impl<'a> Account<'a> {
         ensures { result ≡ sections.line_at self.now event }
     {
         match self.event(event) {
-            Some(told) => told.line,
+            Some(recorded) => recorded.line,
             None => 0,
         }
     }
@@ -77,8 +79,8 @@ impl<'a> Account<'a> {
         ensures { IfOk result (λ list. list.items ≡ sections.refused_from 0 self.now.events) }
     {
         let mut list = Vec::new(self.alloc);
-        for (i, told) in self.tale.events.iter().enumerate() {
-            push_if(&mut list, is_refused(told.answer), i + 1)?;
+        for (i, recorded) in self.run_record.events.iter().enumerate() {
+            push_if(&mut list, is_refused(recorded.answer), i + 1)?;
         }
         Ok(list)
     }
@@ -154,11 +156,11 @@ impl<'a> Account<'a> {
     }
 
     fn mute_flights(&self) -> Result<Vec<usize>, AllocError>
-        ensures { IfOk result (λ list. list.items ≡ sections.mute_from 0 self.now.lots) }
+        ensures { IfOk result (λ list. list.items ≡ sections.mute_from 0 self.now.courses) }
     {
         let mut list = Vec::new(self.alloc);
-        for (i, lot) in self.lots.iter().enumerate() {
-            push_if(&mut list, is_mute(&lot.fate), i + 1)?;
+        for (i, course) in self.courses.iter().enumerate() {
+            push_if(&mut list, is_mute(&course.fate), i + 1)?;
         }
         Ok(list)
     }
@@ -167,7 +169,7 @@ impl<'a> Account<'a> {
     fn made_at(&self, flight: usize) -> usize
         ensures { result ≡ sections.made_at self.now flight }
     {
-        match maker_place(self.tale.events.as_slice(), flight) {
+        match maker_place(self.run_record.events.as_slice(), flight) {
             Some(place) => place + 1,
             None => 0,
         }
@@ -233,9 +235,9 @@ impl<'a> Account<'a> {
         &self,
         text: &mut String,
         event: usize,
-        told: &TaleEvent,
+        recorded: &RecordedEvent,
     ) -> Result<(), AllocError>
-        ensures { OnOk result (string_bytes text.new ≡ string_bytes text.old ++ sections.forged_row self.now event told.now) }
+        ensures { OnOk result (string_bytes text.new ≡ string_bytes text.old ++ sections.forged_row self.now event recorded.now) }
     {
         push_parts(
             text,
@@ -244,7 +246,7 @@ impl<'a> Account<'a> {
                 words("FORGED at event "),
                 number(event),
                 words(", line "),
-                number(told.line as usize),
+                number(recorded.line as usize),
                 words(": "),
                 words(self.why(event)),
                 words(". No node of this run had made that tag with that key.\n"),
@@ -256,22 +258,22 @@ impl<'a> Account<'a> {
         &self,
         text: &mut String,
         event: usize,
-        told: &TaleEvent,
+        recorded: &RecordedEvent,
     ) -> Result<(), AllocError>
-        ensures { OnOk result (string_bytes text.new ≡ string_bytes text.old ++ sections.forged_by self.now event told.now) }
+        ensures { OnOk result (string_bytes text.new ≡ string_bytes text.old ++ sections.forged_by self.now event recorded.now) }
     {
-        if !told.forged {
+        if !recorded.forged {
             return Ok(());
         }
-        self.push_forged_row(text, event, told)
+        self.push_forged_row(text, event, recorded)
     }
 
     // The forged events.
     fn push_forged(&self, text: &mut String) -> Result<(), AllocError>
         ensures { OnOk result (string_bytes text.new ≡ string_bytes text.old ++ sections.forged_from self.now 0 self.now.events) }
     {
-        for (i, told) in self.tale.events.iter().enumerate() {
-            self.push_if_forged(text, i + 1, told)?;
+        for (i, recorded) in self.run_record.events.iter().enumerate() {
+            self.push_if_forged(text, i + 1, recorded)?;
         }
         Ok(())
     }

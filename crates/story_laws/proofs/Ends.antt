@@ -18,13 +18,13 @@ use Rattle.line_progress.specs.Stations.{station_at}
 use Rattle.line_progress.proofs.Events.{StepHas, outcome_has}
 use Rattle.line_progress.proofs.HeldElsewhere.{events_leave}
 use Rattle.line_progress.proofs.TickEvents.{time_comes}
-use Rattle.line_tale.specs.declared.kept.Kept.{Kept}
-use Rattle.line_tale.specs.declared.kept.KeptEnd.{KeptEnd}
-use Rattle.line_tale.specs.declared.kept.KeptEnd.TheVariants as kept_ends
-use Rattle.line_tale.specs.declared.told.TaleEvent.{TaleEvent}
-use Rattle.line_tale.specs.Acts.{act_of}
-use Rattle.line_tale.specs.Keeping.{end_of, is_left, is_power_lost, is_restart, is_still, is_tick, time_of}
-use Rattle.line_tale.specs.Kinds.{actor_of}
+use Rattle.line_record.specs.declared.kept.Kept.{Kept}
+use Rattle.line_record.specs.declared.kept.KeptEnd.{KeptEnd}
+use Rattle.line_record.specs.declared.kept.KeptEnd.TheVariants as kept_ends
+use Rattle.line_record.specs.declared.recorded.TaleEvent.{TaleEvent}
+use Rattle.line_record.specs.Acts.{act_of}
+use Rattle.line_record.specs.KeptItems.{end_of, is_left, is_power_lost, is_restart, is_still, is_tick, time_of}
+use Rattle.line_record.specs.Kinds.{actor_of}
 use Rattle.story_laws.specs.Ends.{EndedKept, EndsAreTold, HaltsUnsaid, IsNamed, IsNamedEnd, IsNone}
 use Rattle.story_laws.specs.Ends.{IsToldRight, NamesAge, NamesLeaving, NamesLoss, NamesRestart}
 use Rattle.story_laws.specs.Ends.{ToldEndsAreSo, told_by}
@@ -48,7 +48,7 @@ ticked_at (events.Near a b cost) is = absurd (cc)
 ticked_at (events.Counter node value) is = absurd (cc)
 ticked_at (events.Number node value) is = absurd (cc)
 ticked_at (events.Allow node) is = absurd (cc)
-ticked_at (events.Rand node value) is = absurd (cc)
+ticked_at (events.RandomOctets node value) is = absurd (cc)
 ticked_at (events.Join node agent) is = absurd (cc)
 ticked_at (events.Leave node) is = absurd (cc)
 ticked_at (events.Send from to datagram) is = absurd (cc)
@@ -78,7 +78,7 @@ restarted_at node (events.Near a b cost) is = absurd (cc)
 restarted_at node (events.Counter other value) is = absurd (cc)
 restarted_at node (events.Number other value) is = absurd (cc)
 restarted_at node (events.Allow other) is = absurd (cc)
-restarted_at node (events.Rand other value) is = absurd (cc)
+restarted_at node (events.RandomOctets other value) is = absurd (cc)
 restarted_at node (events.Join other agent) is = absurd (cc)
 restarted_at node (events.Leave other) is = absurd (cc)
 restarted_at node (events.Send from to datagram) is = absurd (cc)
@@ -110,7 +110,7 @@ leaves_there node (events.Near a b cost) is = absurd is
 leaves_there node (events.Counter other value) is = absurd is
 leaves_there node (events.Number other value) is = absurd is
 leaves_there node (events.Allow other) is = absurd is
-leaves_there node (events.Rand other value) is = absurd is
+leaves_there node (events.RandomOctets other value) is = absurd is
 leaves_there node (events.Join other agent) is = absurd is
 leaves_there node (events.Leave other) is = (refl, refl, eq-eqb other node is)
 leaves_there node (events.Send from to datagram) is = absurd is
@@ -185,7 +185,7 @@ module _ (ciphers : Ciphers) (w v : World) (d : Trace) where
     lost_at (events.Counter node value) e = absurd (plain_lost _ (preset_plain ciphers w node _) e)
     lost_at (events.Number node value) e = absurd (plain_lost _ (preset_plain ciphers w node _) e)
     lost_at (events.Allow node) e = (refl, refl, quiet_lost 0 _ (allow_quiet ciphers w node) e)
-    lost_at (events.Rand node value) e = absurd (plain_lost _ (rand_plain ciphers w node value) e)
+    lost_at (events.RandomOctets node value) e = absurd (plain_lost _ (rand_plain ciphers w node value) e)
     lost_at (events.Join node agent) e = absurd (plain_lost _ (joined_plain ciphers w node agent) e)
     lost_at (events.Leave node) e = (refl, refl, at_own node (events_leave ciphers w v (events.Leave node) d e number))
     lost_at (events.Send from to datagram) e = (refl, refl, quiet_lost from _ (send_quiet ciphers w from to datagram) e)
@@ -232,7 +232,7 @@ module _ (ciphers : Ciphers) (w v : World) (d : Trace) where
     left_at (events.Counter node value) e own = absurd (plain_left _ (preset_plain ciphers w node _) e)
     left_at (events.Number node value) e own = absurd (plain_left _ (preset_plain ciphers w node _) e)
     left_at (events.Allow node) e own = absurd (quiet_left 0 _ (allow_quiet ciphers w node) e)
-    left_at (events.Rand node value) e own = absurd (plain_left _ (rand_plain ciphers w node value) e)
+    left_at (events.RandomOctets node value) e own = absurd (plain_left _ (rand_plain ciphers w node value) e)
     left_at (events.Join node agent) e own = absurd (plain_left _ (joined_plain ciphers w node agent) e)
     left_at (events.Leave node) e own = eqb-true node number own
     left_at (events.Send from to datagram) e own = absurd (quiet_left from _ (send_quiet ciphers w from to datagram) e)

@@ -8,20 +8,20 @@ use Rattle.std.proofs.lemmas.Bool.{and_parts, ne_eqb}
 use Rattle.std.proofs.lemmas.Option.{none-some, same_Some}
 use Rattle.store_tables.proofs.SlotTables.{slice_get-push}
 use Rattle.line_progress.specs.Lists.{Among, Here, Later}
-use Rattle.line_tale.specs.declared.act.Act.{Act}
-use Rattle.line_tale.specs.declared.act.Act.TheVariants as acts
-use Rattle.line_tale.specs.declared.kept.Kept.{Kept}
-use Rattle.line_tale.specs.declared.kept.KeptEnd.{KeptEnd}
-use Rattle.line_tale.specs.declared.kept.KeptEnd.TheVariants as kept_ends
-use Rattle.line_tale.specs.declared.lot.Lot.{Lot}
-use Rattle.line_tale.specs.declared.told.TaleEvent.{TaleEvent}
-use Rattle.line_tale.specs.declared.told.TaleFlight.{TaleFlight}
-use Rattle.line_tale.specs.Keeping.{end_of, is_kept_of, is_left, is_power_lost, is_restart, is_still, is_tick, makes_message, may_end, restarts, time_of}
-use Rattle.line_tale.specs.Kinds.{actor_of, is_piece_held, readies, sends}
-use Rattle.line_tale.specs.Tales.{made_by, numbered}
-use Rattle.line_stories.specs.Keepings.{about_by, asked_about, has_kept, is_message_about, is_waiting, keeping_left, kept_if, message_about, message_kept}
-use Rattle.line_stories.specs.Keepings.{new_kept}
-use Rattle.line_stories.specs.Keepings.{others_kept, piece_kept, piece_of, still_kept, waiting_kept}
+use Rattle.line_record.specs.declared.act.Act.{Act}
+use Rattle.line_record.specs.declared.act.Act.TheVariants as acts
+use Rattle.line_record.specs.declared.kept.Kept.{Kept}
+use Rattle.line_record.specs.declared.kept.KeptEnd.{KeptEnd}
+use Rattle.line_record.specs.declared.kept.KeptEnd.TheVariants as kept_ends
+use Rattle.line_record.specs.declared.course.Lot.{Lot}
+use Rattle.line_record.specs.declared.recorded.TaleEvent.{TaleEvent}
+use Rattle.line_record.specs.declared.recorded.TaleFlight.{TaleFlight}
+use Rattle.line_record.specs.KeptItems.{end_of, is_kept_of, is_left, is_power_lost, is_restart, is_still, is_tick, makes_message, may_end, restarts, time_of}
+use Rattle.line_record.specs.Kinds.{actor_of, is_piece_held, readies, sends}
+use Rattle.line_record.specs.RunRecords.{made_by, numbered}
+use Rattle.line_stories.specs.NodeItems.{about_by, asked_about, has_kept, is_message_about, is_waiting, keeping_left, kept_if, message_about, message_kept}
+use Rattle.line_stories.specs.NodeItems.{new_kept}
+use Rattle.line_stories.specs.NodeItems.{others_kept, piece_kept, piece_of, still_kept, waiting_kept}
 use Rattle.line_stories.specs.Stories.{Stories, announced, event_by, event_seen, events_seen, flight_owner, flight_seen, flights_seen, kept_begun}
 use Rattle.line_stories.specs.Stories.{kept_ended, kept_seen, last_owner, may_leave, message_story, next_event, no_stories, readied, recorded}
 use Rattle.line_stories.specs.Stories.{settled, stories_of, told_seen, up_by, up_keeping, up_kept}
@@ -86,7 +86,7 @@ no_restart node (acts.Near a b) is = refl
 no_restart node (acts.Counter other) is = refl
 no_restart node (acts.Number other) is = refl
 no_restart node (acts.Allow other) is = refl
-no_restart node (acts.Rand other) is = refl
+no_restart node (acts.RandomOctets other) is = refl
 no_restart node (acts.Join other agent) is = refl
 no_restart node (acts.Leave other) is = refl
 no_restart node (acts.Send from to octets) is = refl

@@ -3,7 +3,7 @@ use Rattle.std.proofs.Common.{◌≡◌, ℕ, zero, suc, ◌+◌, ◌-◌, Bool,
 use Rattle.std.proofs.Common.{refl, sym, ap, subst, ◌∙◌, arith}
 use Rattle.std.specs.Prelude.{All, if◌then◌else◌, is_some, slice_get}
 use Rattle.std.proofs.lemmas.Bool.{ne_eqb}
-use Rattle.plc_base.specs.declared.key.Rand.{Rand}
+use Rattle.plc_base.specs.declared.key.RandomOctets.{RandomOctets}
 use Rattle.node_rules.specs.declared.refusal.CoordinatorRefusal.{CoordinatorRefusal}
 use Rattle.node_rules.specs.declared.refusal.CoordinatorRefusal.TheVariants as orders
 use Rattle.node_rules.specs.declared.refusal.RandomFault.{RandomFault}
@@ -20,14 +20,14 @@ use Rattle.line_rules.specs.Further.{line_step}
 use Rattle.line_rules.specs.Runs.{Entry, IsRun}
 use Rattle.line_rules.specs.Steps.{allow, allowed, allowed_word, psk_of, rand}
 use Rattle.line_rules.specs.Worlds.{World, Trace, start}
-use Rattle.line_tale.specs.declared.kept.Kept.{Kept}
-use Rattle.line_tale.specs.declared.kept.KeptEnd.{KeptEnd}
-use Rattle.line_tale.specs.declared.kept.KeptEnd.TheVariants as kept_ends
-use Rattle.line_tale.specs.declared.told.TaleEvent.{TaleEvent}
-use Rattle.line_tale.specs.Acts.{act_of}
-use Rattle.line_tale.specs.Keeping.{end_of, is_still, makes_message}
-use Rattle.line_tale.specs.Kinds.{readies}
-use Rattle.line_tale.specs.Tales.{numbered}
+use Rattle.line_record.specs.declared.kept.Kept.{Kept}
+use Rattle.line_record.specs.declared.kept.KeptEnd.{KeptEnd}
+use Rattle.line_record.specs.declared.kept.KeptEnd.TheVariants as kept_ends
+use Rattle.line_record.specs.declared.recorded.TaleEvent.{TaleEvent}
+use Rattle.line_record.specs.Acts.{act_of}
+use Rattle.line_record.specs.KeptItems.{end_of, is_still, makes_message}
+use Rattle.line_record.specs.Kinds.{readies}
+use Rattle.line_record.specs.RunRecords.{numbered}
 use Rattle.story_laws.specs.Ends.{EndedKept, HaltsUnsaid, IsNamed, IsNone, IsToldRight, told_by}
 use Rattle.story_laws.specs.Keepings.{MakesNone}
 use Rattle.story_laws.specs.KeptRuns.{AreTold, IsToldOf, RunsKeepIt, left_after}
@@ -37,7 +37,7 @@ use Rattle.story_laws.proofs.Keepings.{kept_are_since}
 true_false : true ≡ false → ⊥
 true_false e = cc
 
--- # What readies a joining makes no message
+-- # What prepares a joining makes no message
 
 abbrev NoMessage : World × Trace → Type 0
 NoMessage r = makes_message r.1.happenings.answer ≡ false
@@ -72,7 +72,7 @@ allow_plain w number =
     by_option NoMessage (λ psk. Ok (allowed network w number (acts c (Err orders.Halted) (λ m. coordinator_rules.allow m x.eui psk)))) (psk_of x) _
     (λ psk g. Taken _ (allowed_plain _)) (Fails faults.Node))))
 
-rand_plain : (w : World) (number : ℕ) (value : Rand) → StepHas NoMessage (rand network w number value)
+rand_plain : (w : World) (number : ℕ) (value : RandomOctets) → StepHas NoMessage (rand network w number value)
 unfolding rand
 rand_plain w number value = once NoMessage w _ (at_node NoMessage w number _ (λ x e. Taken _ (random_plain _)))
 
@@ -85,7 +85,7 @@ makes_none w v d (events.Near a b cost) e readied = absurd (true_false (sym read
 makes_none w v d (events.Counter node value) e readied = absurd (true_false (sym readied))
 makes_none w v d (events.Number node value) e readied = absurd (true_false (sym readied))
 makes_none w v d (events.Allow node) e readied = outcome_has NoMessage (allow network w node) (v, d) (allow_plain w node) e
-makes_none w v d (events.Rand node value) e readied = outcome_has NoMessage (rand network w node value) (v, d) (rand_plain w node value) e
+makes_none w v d (events.RandomOctets node value) e readied = outcome_has NoMessage (rand network w node value) (v, d) (rand_plain w node value) e
 makes_none w v d (events.Join node agent) e readied = absurd (true_false (sym readied))
 makes_none w v d (events.Leave node) e readied = absurd (true_false (sym readied))
 makes_none w v d (events.Send from to datagram) e readied = absurd (true_false (sym readied))

@@ -3,7 +3,7 @@ use Rattle.std.proofs.Common.{◌≡◌, ℕ, ◌+◌, ◌-◌, ◌<◌, Bool, t
 use Rattle.std.specs.Prelude.{nat_le}
 use Rattle.std.proofs.lemmas.Bool.{ltb-false, leb-true, le-leb, le-ltb}
 use Rattle.plc_base.specs.Times.{is_within}
-use Rattle.line_tale.specs.Keeping.{time_of}
+use Rattle.line_record.specs.KeptItems.{time_of}
 
 pub old_told : (time now since : ℕ) → is_within time now since ≡ false → nat_le time (now - since) ≡ true
 old_told time now since old = le-leb time (now - since) (omega (arith, ltb-false now (since + time) old))

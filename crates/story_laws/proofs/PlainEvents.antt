@@ -3,7 +3,7 @@ use Rattle.std.proofs.Common.{◌≡◌, ℕ, ◌==◌, false, not, length, Opti
 use Rattle.std.specs.Prelude.{is_some, nat_lt, ◌||◌}
 use Rattle.plc_base.specs.declared.address.Eui.{Eui}
 use Rattle.plc_base.specs.declared.key.Key.{Key}
-use Rattle.plc_base.specs.declared.key.Rand.{Rand}
+use Rattle.plc_base.specs.declared.key.RandomOctets.{RandomOctets}
 use Rattle.plc_base.specs.Grant.{Granted}
 use Rattle.node_rules.specs.declared.refusal.CoordinatorRefusal.{CoordinatorRefusal}
 use Rattle.node_rules.specs.declared.refusal.CoordinatorRefusal.TheVariants as orders
@@ -26,7 +26,7 @@ use Rattle.line_rules.specs.Further.{checks, choice_word, choose, chooses_by}
 use Rattle.line_rules.specs.Steps.{Step, coordinator, depot, depot_by, has_begun, is_known, join, joins_by, meter, near, near_by, preset, provisioned}
 use Rattle.line_rules.specs.Steps.{psk_of, rand, set_up, takes_setup, world_after}
 use Rattle.line_rules.specs.Worlds.{World, Trace}
-use Rattle.line_tale.specs.Keeping.{is_left, is_power_lost}
+use Rattle.line_record.specs.KeptItems.{is_left, is_power_lost}
 use Rattle.line_progress.proofs.Events.{StepHas, Fails, Taken, branch, by_option, once, setup, at_node, at_meter}
 
 -- # Words
@@ -101,7 +101,7 @@ module _ (ciphers : Ciphers) (w : World) where
   unfolding checks
   checks_plain = setup IsPlain w _ (branch IsPlain w.checks_on _ _ (Fails faults.Setup) (Taken _ (refl, refl)))
 
-  pub rand_plain : (number : ℕ) (value : Rand) → Plain (rand ciphers w number value)
+  pub rand_plain : (number : ℕ) (value : RandomOctets) → Plain (rand ciphers w number value)
   unfolding rand
   rand_plain number value = once IsPlain w _ (at_node IsPlain w number _ (λ x e. Taken _ (random_plain _)))
 

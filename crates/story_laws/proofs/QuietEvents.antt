@@ -34,8 +34,8 @@ use Rattle.line_rules.specs.Steps.{Step, activate, allow, allowed, breaks, break
 use Rattle.line_rules.specs.Steps.{node_outcome, psk_of, rekey, restart_word, running_world, send, sends_by}
 use Rattle.line_rules.specs.Steps.{sent_if, show, tag_of, tick, ticked, trace_of, world_after}
 use Rattle.line_rules.specs.Worlds.{World, Trace}
-use Rattle.line_tale.specs.Keeping.{is_left, is_power_lost}
-use Rattle.line_progress.proofs.Acting.{Acted, Whole, Failed, acts_either}
+use Rattle.line_record.specs.KeptItems.{is_left, is_power_lost}
+use Rattle.line_progress.proofs.WholePlans.{Acted, Whole, Failed, acts_either}
 use Rattle.line_progress.proofs.Events.{StepHas, Taken, Fails, by_option, once, at_node, at_meter, at_flight}
 use Rattle.line_progress.proofs.HeldEvents.{held_at, station_of}
 

@@ -5,14 +5,14 @@ use Rattle.line_events.specs.declared.event.Answer.{Answer}
 use Rattle.line_progress.specs.Lists.{Among, Here, Later}
 use Rattle.line_progress.proofs.BodyFates.{among_back}
 use Rattle.line_progress.proofs.PieceFates.{among_front}
-use Rattle.line_tale.specs.declared.act.Act.{Act}
-use Rattle.line_tale.specs.declared.act.Act.TheVariants as acts
-use Rattle.line_tale.specs.declared.kept.Kept.{Kept}
-use Rattle.line_tale.specs.declared.told.TaleEvent.{TaleEvent}
-use Rattle.line_tale.specs.declared.told.TaleFlight.{TaleFlight}
-use Rattle.line_tale.specs.Kinds.{readies, sends}
-use Rattle.line_tale.specs.Tales.{made_by}
-use Rattle.line_stories.specs.Keepings.{is_waiting, keeping_begun, keeping_left, message_about, message_kept, new_kept, piece_kept, waiting_kept}
+use Rattle.line_record.specs.declared.act.Act.{Act}
+use Rattle.line_record.specs.declared.act.Act.TheVariants as acts
+use Rattle.line_record.specs.declared.kept.Kept.{Kept}
+use Rattle.line_record.specs.declared.recorded.TaleEvent.{TaleEvent}
+use Rattle.line_record.specs.declared.recorded.TaleFlight.{TaleFlight}
+use Rattle.line_record.specs.Kinds.{readies, sends}
+use Rattle.line_record.specs.RunRecords.{made_by}
+use Rattle.line_stories.specs.NodeItems.{is_waiting, keeping_begun, keeping_left, message_about, message_kept, new_kept, piece_kept, waiting_kept}
 use Rattle.line_stories.specs.Stories.{Stories, announced, event_by, event_seen, events_seen, flight_owner, flight_seen, flights_seen, kept_begun}
 use Rattle.line_stories.specs.Stories.{kept_ended, kept_seen, last_owner, may_leave, message_story, no_stories, recorded, settled, told_seen, up_kept}
 use Rattle.line_stories.proofs.Counts.{events_count, seen}
@@ -30,7 +30,7 @@ readies_none (acts.Near a b) word is = refl
 readies_none (acts.Counter node) word is = refl
 readies_none (acts.Number node) word is = refl
 readies_none (acts.Allow node) word is = absurd (true_false (sym is))
-readies_none (acts.Rand node) word is = absurd (true_false (sym is))
+readies_none (acts.RandomOctets node) word is = absurd (true_false (sym is))
 readies_none (acts.Join node agent) word is = refl
 readies_none (acts.Leave node) word is = refl
 readies_none (acts.Send from to octets) word is = refl

@@ -2,7 +2,7 @@
 use Rattle.std.proofs.Common.{◌≡◌, true, refl}
 use Rattle.line_events.specs.declared.event.Answer.{Answer}
 use Rattle.line_events.specs.declared.event.Answer.TheVariants as answers
-use Rattle.line_tale.specs.Keeping.{is_left, is_power_lost}
+use Rattle.line_record.specs.KeptItems.{is_left, is_power_lost}
 
 pub left_word : (answer : Answer) → is_left answer ≡ true → answer ≡ answers.Left
 left_word answers.Made is = absurd (cc)

@@ -12,14 +12,14 @@ use Rattle.line_rules.specs.Worlds.{World, Trace}
 use Rattle.line_progress.specs.EventFates.{Ended, MayLeave, hides_a_loss}
 use Rattle.line_progress.specs.Stations.{station_at}
 use Rattle.line_progress.specs.UnitFates.{is_datagram_end}
-use Rattle.line_tale.specs.declared.kept.Kept.{Kept}
-use Rattle.line_tale.specs.declared.kept.KeptEnd.{KeptEnd}
-use Rattle.line_tale.specs.declared.kept.KeptEnd.TheVariants as kept_ends
-use Rattle.line_tale.specs.declared.told.TaleEvent.{TaleEvent}
-use Rattle.line_tale.specs.Acts.{act_of}
-use Rattle.line_tale.specs.Keeping.{end_of, is_power_lost, time_of}
-use Rattle.line_tale.specs.Kinds.{actor_of, is_dropped, is_reported}
-use Rattle.line_tale.specs.Tales.{event_told}
+use Rattle.line_record.specs.declared.kept.Kept.{Kept}
+use Rattle.line_record.specs.declared.kept.KeptEnd.{KeptEnd}
+use Rattle.line_record.specs.declared.kept.KeptEnd.TheVariants as kept_ends
+use Rattle.line_record.specs.declared.recorded.TaleEvent.{TaleEvent}
+use Rattle.line_record.specs.Acts.{act_of}
+use Rattle.line_record.specs.KeptItems.{end_of, is_power_lost, time_of}
+use Rattle.line_record.specs.Kinds.{actor_of, is_dropped, is_reported}
+use Rattle.line_record.specs.RunRecords.{event_told}
 
 -- what is told of an event of a line that made the world what it is: of a line of this number, and where it injects the octets of a flight, of that one
 abbrev pub told_by : (row same : ℕ) → Event → World × Trace → TaleEvent

@@ -1,15 +1,15 @@
 -- Since when a story says that a node keeps something of it.
 use Rattle.std.specs.Prelude.{◌≡◌, ℕ, ◌+◌, ◌<◌, true, false, List, [], ◌∷◌, ◌++◌, length, is_some, Some, All}
 use Rattle.line_progress.specs.Lists.{Among}
-use Rattle.line_stories.specs.Keepings.{is_waiting}
+use Rattle.line_stories.specs.NodeItems.{is_waiting}
 use Rattle.line_stories.specs.Stories.{Stories, events_seen, last_owner, may_leave, no_stories, stories_of}
-use Rattle.line_tale.specs.declared.kept.Kept.{Kept}
-use Rattle.line_tale.specs.declared.kept.KeptEnd.TheVariants as kept_ends
-use Rattle.line_tale.specs.declared.told.TaleEvent.{TaleEvent}
-use Rattle.line_tale.specs.declared.told.TaleFlight.{TaleFlight}
-use Rattle.line_tale.specs.Keeping.{end_of, makes_message}
-use Rattle.line_tale.specs.Kinds.{actor_of, is_piece_held, readies, sends}
-use Rattle.line_tale.specs.Tales.{made_by, numbered}
+use Rattle.line_record.specs.declared.kept.Kept.{Kept}
+use Rattle.line_record.specs.declared.kept.KeptEnd.TheVariants as kept_ends
+use Rattle.line_record.specs.declared.recorded.TaleEvent.{TaleEvent}
+use Rattle.line_record.specs.declared.recorded.TaleFlight.{TaleFlight}
+use Rattle.line_record.specs.KeptItems.{end_of, makes_message}
+use Rattle.line_record.specs.Kinds.{actor_of, is_piece_held, readies, sends}
+use Rattle.line_record.specs.RunRecords.{made_by, numbered}
 
 -- What begins at an event: a datagram that is sent waits for a route, a piece is held, or a joining message is made.
 pub data HasBegun (k : Kept) (e : TaleEvent) : Type 0 where
@@ -26,7 +26,7 @@ pub record IsKeptSince (events : List TaleEvent) (k : Kept) : Type 0 where
   pub began : HasBegun k event
   pub still : (m : ℕ) (e : TaleEvent) → k.event < m → numbered events m ≡ Some e → end_of m e k ≡ kept_ends.Still
 
--- an event that readies a node for a joining makes no message
+-- an event that prepares a node for a joining makes no message
 abbrev pub MakesNone : TaleEvent → Type 0
 MakesNone e = is_some (readies e.act) ≡ true → makes_message e.answer ≡ false
 

@@ -7,9 +7,9 @@ use Rattle.line_progress.specs.Stations.{station_at}
 use Rattle.line_rules.specs.Runs.{Entry, IsRun}
 use Rattle.line_rules.specs.Worlds.{World, start}
 use Rattle.line_stories.specs.Stories.{stories_of}
-use Rattle.line_tale.specs.declared.kept.Kept.{Kept}
-use Rattle.line_tale.specs.declared.told.TaleEvent.{TaleEvent}
-use Rattle.line_tale.specs.declared.told.TaleFlight.{TaleFlight}
+use Rattle.line_record.specs.declared.kept.Kept.{Kept}
+use Rattle.line_record.specs.declared.recorded.TaleEvent.{TaleEvent}
+use Rattle.line_record.specs.declared.recorded.TaleFlight.{TaleFlight}
 use Rattle.story_laws.specs.Ends.{EndedKept, HaltsUnsaid, told_by}
 
 -- an event is what is told of an entry, of a line of some number

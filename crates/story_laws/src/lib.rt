@@ -1,4 +1,4 @@
-//! What the stories of a run say of what its nodes keep is so: laws over the definitions of `line_tale`, `line_stories` and `line_progress`.
+//! What the stories of a run say of what its nodes keep is so: laws over the definitions of `line_record`, `line_stories` and `line_progress`.
 #![tactic(auto)]
 
 mod laws;

@@ -8,7 +8,7 @@ use Rattle.std.proofs.lemmas.Slice.Eq.{bytes_eq-Decides}
 use Rattle.std.proofs.Math.Seq.{drop-append_seam, take-append_seam}
 use Rattle.plc_base.specs.declared.key.Key.{Key}
 use Rattle.node_rules.specs.Ciphers.{OpensWhatItSeals}
-use Rattle.worked_scripts.proofs.Computing.{computed}
+use Rattle.worked_scripts.proofs.ComputedScripts.{computed}
 use Rattle.worked_scripts.specs.ArrivalScripts.{TheRouteMayCarry, ADatagramArrives, EachNodeIsReady, EachLinkHolds, TheRouteIsStraight, TheRestIsNeeded}
 use Rattle.worked_scripts.specs.ArrivalScripts.{TheRouteMayCarryPieces, ADatagramInPiecesArrives, EachPieceNeedsACounter, PiecesNeedRoom, PiecesNeedTheirName}
 use Rattle.worked_scripts.specs.ArrivalScripts.{FourteenLinksCarry, BothAreOrders, ADatagramArrivesLinkByLink, EachOrderIsNeeded}

@@ -1,6 +1,6 @@
 -- What refuses the calls of the line, and which lines of a script are bad: the runs are computed.
 use Rattle.std.proofs.Common.{refl}
-use Rattle.worked_scripts.proofs.Computing.{computed}
+use Rattle.worked_scripts.proofs.ComputedScripts.{computed}
 use Rattle.worked_scripts.specs.CallScripts.{HaltedNodesDoNothing, CallsNeedAddresses, EightRandomValuesAreHeld, TheBookHasRoom, BadLinesHaveTheirReasons}
 use Rattle.worked_scripts.specs.CallScripts.{SixtyFourAreNear}
 

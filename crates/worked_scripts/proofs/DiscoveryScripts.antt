@@ -1,7 +1,7 @@
 -- A datagram without a route finds its way, and not where the way lacks something: the runs are computed.
 use Rattle.std.proofs.Common.{arith, refl}
 use Rattle.std.proofs.lemmas.Bool.{eqb-false, leb-true, ltb-true}
-use Rattle.worked_scripts.proofs.Computing.{computed}
+use Rattle.worked_scripts.proofs.ComputedScripts.{computed}
 use Rattle.worked_scripts.specs.DiscoveryScripts.{TheWayMayBeFound, ADatagramFindsItsWay, TheWayMayBeFoundForPieces, PiecesFindTheirWay}
 use Rattle.worked_scripts.specs.DiscoveryScripts.{EachNodeOfAWayIsReady, TheWayIsStraight, TheNodeMaySeek, EachNodeTakesTheRequest}
 use Rattle.worked_scripts.specs.DiscoveryScripts.{EachNodeTakesTheReply, TheNodeThatAsksLearns, NeighboursHaveTheirAddresses, WhatElseASearchNeeds}

@@ -1,6 +1,6 @@
 -- What becomes of datagrams, units, bodies and pieces: the runs are computed.
 use Rattle.std.proofs.Common.{refl}
-use Rattle.worked_scripts.proofs.Computing.{computed}
+use Rattle.worked_scripts.proofs.ComputedScripts.{computed}
 use Rattle.worked_scripts.specs.FateScripts.{ASendHasEachFate, AUnitHasEachFate, ALostFlightComes, ABodyHasEachFate, APieceHasEachFate}
 
 pub a_send_has_each_fate : ASendHasEachFate

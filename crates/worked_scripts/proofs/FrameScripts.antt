@@ -1,6 +1,6 @@
 -- What becomes of frames that no node sent, and how frames are spelled: the runs are computed.
 use Rattle.std.proofs.Common.{refl}
-use Rattle.worked_scripts.proofs.Computing.{computed}
+use Rattle.worked_scripts.proofs.ComputedScripts.{computed}
 use Rattle.worked_scripts.specs.FrameScripts.{AForgedFrameIsNamed, ALostFrameIsNotForged, MaliciousFramesAreRefused, FramesHaveTheirNodes, UnitsHaveTheirPaths}
 use Rattle.worked_scripts.specs.FrameScripts.{FramesAreSpelled}
 

@@ -1,6 +1,6 @@
 -- The worked rows of further reach: the runs are computed.
 use Rattle.std.proofs.Common.{refl}
-use Rattle.worked_scripts.proofs.Computing.{computed}
+use Rattle.worked_scripts.proofs.ComputedScripts.{computed}
 use Rattle.worked_scripts.specs.FurtherScripts.{RepliesAreAcknowledged, BroadcastsComeOnce, MetersChooseAgents, PathsAreAnswered}
 
 pub replies_are_acknowledged : RepliesAreAcknowledged

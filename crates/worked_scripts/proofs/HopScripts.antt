@@ -1,6 +1,6 @@
 -- What becomes of datagrams and units over one hop and over several: the runs are computed.
 use Rattle.std.proofs.Common.{refl}
-use Rattle.worked_scripts.proofs.Computing.{computed}
+use Rattle.worked_scripts.proofs.ComputedScripts.{computed}
 use Rattle.worked_scripts.specs.HopScripts.{ARepeatIsRefused, DatagramsOfEverySize, DiscoveryOverTwoRelays, ABrokenRouteStaysBroken, ALostFlightComesNoMore}
 use Rattle.worked_scripts.specs.HopScripts.{AUnitGoesOnWhileHopsAreLeft, EveryUnitGoesOn, AUnitWithoutARouteIsReported, GoingOnTakesACounter}
 use Rattle.worked_scripts.specs.HopScripts.{AnErrorGoesOnToItsTarget, AnErrorThatGoesOnTakesACounter, AnErrorForItsTargetGoesOn, WhatIsShownIsInOrder}

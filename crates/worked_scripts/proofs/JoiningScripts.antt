@@ -1,6 +1,6 @@
 -- What becomes of joinings: over the air and through an agent, in time and late, with packets that are refused: the runs are computed.
 use Rattle.std.proofs.Common.{refl}
-use Rattle.worked_scripts.proofs.Computing.{computed}
+use Rattle.worked_scripts.proofs.ComputedScripts.{computed}
 use Rattle.worked_scripts.specs.JoiningScripts.{AMeterJoinsOverTheAir, AnOldThirdPacketIsRefused, PlainFramesTakeNoCounter, AMeterJoinsThroughAnAgent}
 use Rattle.worked_scripts.specs.JoiningScripts.{ASessionEndsAfterTwoMinutes, ChallengesAreJudgedInOrder, AForgedGrantIsNamed, AForgedAnswerIsNamed}
 use Rattle.worked_scripts.specs.JoiningScripts.{PacketsAreChecked, EightSessionsAreOpen, AKickedMeterMayNotKnow}

@@ -1,6 +1,6 @@
 -- What becomes of keys: rotation, activation, kicks, and leaving: the runs are computed.
 use Rattle.std.proofs.Common.{refl}
-use Rattle.worked_scripts.proofs.Computing.{computed}
+use Rattle.worked_scripts.proofs.ComputedScripts.{computed}
 use Rattle.worked_scripts.specs.KeyScripts.{RotationAndKick, AMeterAnswersUnderItsNewRing, OrdersAreRefused, AnotherKeyIsNotIssued, AnOrderMayLackRoom}
 use Rattle.worked_scripts.specs.KeyScripts.{KickGoesWhereItCan, LeavingKeepsRanksAndMarks}
 

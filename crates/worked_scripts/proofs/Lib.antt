@@ -1,4 +1,4 @@
-mod Computing
+mod ComputedScripts
 pub mod HopScripts
 pub mod RankScripts
 pub mod PieceScripts

@@ -1,6 +1,6 @@
 -- What becomes of the pieces of datagrams at the node that gathers them: the runs are computed.
 use Rattle.std.proofs.Common.{refl}
-use Rattle.worked_scripts.proofs.Computing.{computed}
+use Rattle.worked_scripts.proofs.ComputedScripts.{computed}
 use Rattle.worked_scripts.specs.PieceScripts.{ThePiecesMakeTheDatagram, PiecesComeInAnyOrder, ARepeatedPieceIsIgnored, AnOverlapBeginsAnew, PiecesAreNamed}
 use Rattle.worked_scripts.specs.PieceScripts.{EightAreGathered, EightyBlocksAreGathered, GatheringEndsAfterAMinute}
 

@@ -1,6 +1,6 @@
 -- What becomes of ranks that messages offer: which are refused, which are kept, and which are forgotten: the runs are computed.
 use Rattle.std.proofs.Common.{refl}
-use Rattle.worked_scripts.proofs.Computing.{computed}
+use Rattle.worked_scripts.proofs.ComputedScripts.{computed}
 use Rattle.worked_scripts.specs.RankScripts.{CostsAreSpent, RequestsOfferRanks, RepliesOfferRanks, AReplyGoesByTheHopFromBefore, AnAnswerTakesANumber}
 use Rattle.worked_scripts.specs.RankScripts.{ARouteEndsAfterSixHours, AFullTableRefuses, AFullTableForgetsTheEarliest, AFullTableForgetsTheBroken}
 use Rattle.worked_scripts.specs.RankScripts.{FloorsAreStoredFirst, ANodeHearsSixtyFourSenders}

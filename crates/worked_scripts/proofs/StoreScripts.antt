@@ -1,6 +1,6 @@
 -- What a step stores, in which order, and what is left where a write fails: the runs are computed.
 use Rattle.std.proofs.Common.{refl}
-use Rattle.worked_scripts.proofs.Computing.{computed}
+use Rattle.worked_scripts.proofs.ComputedScripts.{computed}
 use Rattle.worked_scripts.specs.StoreScripts.{AFailedWriteHalts, EachWriteMayFail, ASendStoresItsTagFirst, TagsBeginAgain, TheWorkshopStores, OrdersAreStored}
 use Rattle.worked_scripts.specs.StoreScripts.{WhatDoesNotChangeIsNotStored, EachCallMayFail, AJoiningStoresItsKeys, AKickIsStoredFirst, LimitsStopAtTheEnd}
 use Rattle.worked_scripts.specs.StoreScripts.{AStepPassesTheLimitOnce, MarksAreStoredAhead, NumbersAreStoredAhead}

@@ -1,6 +1,6 @@
 -- What becomes of bodies that wait for a route, and of what a node sends with few counters left: the runs are computed.
 use Rattle.std.proofs.Common.{refl}
-use Rattle.worked_scripts.proofs.Computing.{computed}
+use Rattle.worked_scripts.proofs.ComputedScripts.{computed}
 use Rattle.worked_scripts.specs.WaitingScripts.{WhatWaitsLeavesInOrder, WhatWaitsLeavesBeforeTheAnswer, EightBodiesWait, EightyBlocksWait}
 use Rattle.worked_scripts.specs.WaitingScripts.{WaitingEndsAfterHalfAMinute, SeekingTakesANumber, SeekingTakesACounter, WaitingPiecesTakeCounters}
 use Rattle.worked_scripts.specs.WaitingScripts.{NothingIsSentWhenSpent}

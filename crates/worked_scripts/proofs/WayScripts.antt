@@ -1,6 +1,6 @@
 -- Which joining messages are taken by which way, and what each other one is answered: the runs are computed.
 use Rattle.std.proofs.Common.{refl}
-use Rattle.worked_scripts.proofs.Computing.{computed}
+use Rattle.worked_scripts.proofs.ComputedScripts.{computed}
 use Rattle.worked_scripts.specs.WayScripts.{OnlyAJoinGoesUp, PlainFramesComeDown, CommandsComeFromTheCoordinator, OnlyAJoinReachesTheCoordinator}
 use Rattle.worked_scripts.specs.WayScripts.{AnAnswerByCommandMayLackRoom}
 

@@ -10,7 +10,7 @@ use Rattle.node_rules.specs.Calls as calls
 use Rattle.node_rules.specs.Ciphers.{Ciphers, OpensWhatItSeals}
 use Rattle.node_rules.specs.Drafts.{sealing_key}
 use Rattle.node_rules.specs.Memory.{StationMemory, Memory, Node, Coordinator, Meter}
-use Rattle.node_rules.specs.StoreReading.{blank_station, first_grant, remembering}
+use Rattle.node_rules.specs.RestartStates.{blank_station, first_grant, remembering}
 use Rattle.line_events.specs.declared.event.Answer.{Answer}
 use Rattle.line_events.specs.declared.event.Answer.TheVariants as answers
 use Rattle.line_events.specs.declared.event.Event.{Event}
@@ -252,7 +252,7 @@ EachPieceNeedsACounter =
     × (answers_with (with_one_counter_at 1) ≡ answers.Sent ∷ answers.Relayed ∷ answers.Up ∷ [])
     × (answers_with (with_one_counter_at 2) ≡ answers.Sent ∷ answers.Relayed ∷ answers.Up ∷ [])
 
--- a reassembly of a datagram of so many octets from another origin
+-- a reassembly of a datagram of this many octets from another origin
 abbrev pub other_of : ℕ → Reassembly
 other_of size = record { origin = 9; size = size; tag = 0; note = 0; since = 0; pieces = [] }
 
@@ -314,7 +314,7 @@ street_node last number =
           }) []);
     }
 
--- a street of so many links
+-- a street of this many links
 abbrev pub street : ℕ → World
 street links = record start {
   running = true;

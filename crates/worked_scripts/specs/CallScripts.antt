@@ -8,7 +8,8 @@ use Rattle.node_rules.specs.declared.refusal.CoordinatorRefusal.{CoordinatorRefu
 use Rattle.node_rules.specs.declared.refusal.CoordinatorRefusal.TheVariants as refusals
 use Rattle.line_events.specs.declared.event.Answer.TheVariants as answers
 use Rattle.line_events.specs.declared.event.Event.{Event}
-use Rattle.line_events.specs.declared.event.Event.TheVariants.{Coordinator, Meter, Depot, Near, Counter, Allow, Rand, Join, Leave, Send, Deliver, Inject, Lose}
+use Rattle.line_events.specs.declared.event.Event.TheVariants.{Coordinator, Meter, Depot, Near, Counter, Allow, RandomOctets, Join, Leave, Send, Deliver}
+use Rattle.line_events.specs.declared.event.Event.TheVariants.{Inject, Lose}
 use Rattle.line_events.specs.declared.event.Event.TheVariants.{Break, Tick, Cut, Rekey, Activate, Challenge, Kick, Show}
 use Rattle.line_events.specs.declared.event.StepFault.TheVariants as faults
 use Rattle.line_rules.specs.Worlds.{start}
@@ -27,7 +28,7 @@ both_halted =
 abbrev pub calls_at_halted : List Event
 calls_at_halted =
     Send 1 2 (0xaa ∷ []) ∷ Send 2 1 (0xaa ∷ []) ∷ Send 1 1 (0xaa ∷ []) ∷ Break 1 2 ∷ Break 2 1 ∷ Join 1 2 ∷ Join 1 0
-    ∷ Join 2 1 ∷ Leave 1 ∷ Rand 1 rand_k ∷ Rand 0 rand_k
+    ∷ Join 2 1 ∷ Leave 1 ∷ RandomOctets 1 rand_k ∷ RandomOctets 0 rand_k
     ∷ Inject 1 1 (0 ∷ []) ∷ Inject 0 1 (0 ∷ []) ∷ Allow 1 ∷ Rekey 1 second_key ∷ Rekey 0 second_key ∷ Challenge 1
     ∷ Activate 0 1 ∷ Activate 1 0 ∷ Kick 1
     ∷ Tick 1 ∷ Cut 1 1 true ∷ Show 1 ∷ []
@@ -83,14 +84,14 @@ CallsNeedAddresses =
 -- A node holds eight random values, takes the oldest first, and keeps them when it leaves.
 unfoldable pub EightRandomValuesAreHeld : Type 0
 EightRandomValuesAreHeld =
-    (answers_to one_meter (replicate 9 (Rand 1 rand_k)) ≡ replicate 8 answers.Given ++ (answers.RandomsFull ∷ []))
-    × (answers_to one_meter (replicate 9 (Rand 0 rand_k)) ≡ replicate 8 answers.Given ++ (answers.RandomsFull ∷ []))
-    × (answers_to one_meter (replicate 8 (Rand 1 rand_k) ++ (Leave 1 ∷ Rand 1 rand_k ∷ []))
+    (answers_to one_meter (replicate 9 (RandomOctets 1 rand_k)) ≡ replicate 8 answers.Given ++ (answers.RandomsFull ∷ []))
+    × (answers_to one_meter (replicate 9 (RandomOctets 0 rand_k)) ≡ replicate 8 answers.Given ++ (answers.RandomsFull ∷ []))
+    × (answers_to one_meter (replicate 8 (RandomOctets 1 rand_k) ++ (Leave 1 ∷ RandomOctets 1 rand_k ∷ []))
     ≡ replicate 8 answers.Given ++ (answers.Left ∷ answers.RandomsFull ∷ []))
 
 -- # A full book
 
--- what the coordinator answers where a meter is allowed beside a book of so many entries, all of the meter of EUI 5
+-- what the coordinator answers where a meter is allowed beside a book of this many entries, all of the meter of EUI 5
 abbrev pub allowed_beside : (count n : ℕ) → Option (Result ℕ CoordinatorRefusal)
 allowed_beside count n =
     option_map (λ (m : Memory).
@@ -143,7 +144,7 @@ BadLinesHaveTheirReasons =
     × (fault_after two_meters (Deliver 1 9 1) ≡ Some faults.Node)
     × (fault_after two_meters (Lose 1) ≡ Some faults.Flight)
 
--- so many meters, each joined in the workshop, the first of them near so many others
+-- this many meters, each joined in the workshop, the first of them near this many others
 abbrev pub neighbours : ℕ → List Event
 neighbours count =
     alone ++ (map (λ n. Meter (eui n) pair_key) (range_with_len 2 66)

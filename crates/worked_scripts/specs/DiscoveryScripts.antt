@@ -111,7 +111,7 @@ with_waiting_at number bodies w = with_station_at number (λ l. record l { waiti
 abbrev pub without_numbers_at : ℕ → World → World
 without_numbers_at number w = with_station_at number (λ l. record l { own_number = record { limit = 65535; last = 65535 } }) w
 
--- whose node has so many counters left
+-- whose node has this many counters left
 abbrev pub with_counters_at : ℕ → ℕ → World → World
 with_counters_at number left w = with_station_at number (λ l. record l { counter = counter.counting_at (4294967295 - left) }) w
 
@@ -139,7 +139,7 @@ abbrev pub with_rank_at : ℕ → ℕ → World → World
 with_rank_at number dest w =
     with_station_at number (λ l. record l { routing = routing.offered l.routing dest (record { number = 9; cost = 1 }) dest 0 }) w
 
--- whose node keeps ranks of so many other addresses, all fresh
+-- whose node keeps ranks of this many other addresses, all fresh
 abbrev pub with_ranks_at : ℕ → ℕ → World → World
 with_ranks_at number count w =
     with_station_at number

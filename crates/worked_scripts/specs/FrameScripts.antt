@@ -5,7 +5,7 @@ use Rattle.mesh_header.specs.declared.unit.Unit.TheVariants.{Local}
 use Rattle.loadng_messages.specs.declared.message.Message.TheVariants.{Rreq, Rerr}
 use Rattle.line_events.specs.declared.event.Answer.TheVariants as answers
 use Rattle.line_events.specs.declared.event.Event.{Event}
-use Rattle.line_events.specs.declared.event.Event.TheVariants.{Coordinator, Meter, Depot, Near, Allow, Rand, Join, Send, Deliver, Inject, Lose}
+use Rattle.line_events.specs.declared.event.Event.TheVariants.{Coordinator, Meter, Depot, Near, Allow, RandomOctets, Join, Send, Deliver, Inject, Lose}
 use Rattle.line_rules.specs.Worlds.{start}
 use Rattle.line_rules.specs.Runs.{run}
 use Rattle.worked_scripts.specs.Scripts.{plain, eui, group_key, pair_key, rand_k, rand_r, two_meters, sealed, sealed_under, everyone, routing_unit, whole}
@@ -149,7 +149,7 @@ UnitsHaveTheirPaths =
 abbrev pub named_joining : List Event
 named_joining =
     Coordinator (record { 0 = big_bytes 8 0xaabbccddeeff0011 }) group_key
-    ∷ Meter (record { 0 = big_bytes 8 0x0102030405060708 }) pair_key ∷ Allow 1 ∷ Rand 0 rand_k ∷ Rand 1 rand_r
+    ∷ Meter (record { 0 = big_bytes 8 0x0102030405060708 }) pair_key ∷ Allow 1 ∷ RandomOctets 0 rand_k ∷ RandomOctets 1 rand_r
     ∷ Join 1 0 ∷ Deliver 1 0 1 ∷ Deliver 2 1 1 ∷ Deliver 3 0 1 ∷ Deliver 4 1 1 ∷ Deliver 5 0 1 ∷ Deliver 6 1 1 ∷ []
 
 -- The octets of frames are those of the formats: a sealed frame's header and unit, the same after a relay, with one hop less, and the plain

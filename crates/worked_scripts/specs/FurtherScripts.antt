@@ -12,7 +12,7 @@ use Rattle.line_rules.specs.Runs.{Entry, one_of, run}
 use Rattle.line_rules.specs.Worlds.{Flight, start, flight_at}
 use Rattle.worked_scripts.specs.Scripts.{plain, eui, group_key, pair_key, two_meters, world_behind, counted, Counted}
 
--- the answers after so many events, and what was counted
+-- the answers after this many events, and what was counted
 abbrev pub line_answers : ℕ → List Event → List Answer
 line_answers count events = map (λ (x : Entry). x.trace.happenings.answer) (drop count (run plain start events))
 

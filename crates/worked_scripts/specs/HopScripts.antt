@@ -109,7 +109,7 @@ ALostFlightComesNoMore =
 
 -- # Hops that are left
 
--- a unit with so many hops comes to a meter that has a route to its target
+-- a unit with this many hops comes to a meter that has a route to its target
 abbrev pub with_hops : ℕ → List Event
 with_hops hops = three_meters ++ (Near 1 2 1 ∷ Inject 1 1 (sealed 1 3 9 (whole hops 3 2 (0xaa ∷ []))) ∷ [])
 
@@ -163,7 +163,7 @@ AUnitWithoutARouteIsReported =
     × (answers_after 8 (without_route 14 1) ≡ answers.NoRoute ∷ [])
     × (counts_of (without_route 14 1) ≡ record { events = 9; flights = 0; sends = 0; ups = 0; forged = 1 })
 
--- two routes, and so many counters gone
+-- two routes, and this many counters gone
 abbrev pub counters_gone : ℕ → List Event
 counters_gone gone = three_meters ++ (Near 1 2 1 ∷ Near 1 3 1 ∷ Counter 1 gone ∷ [])
 

@@ -9,7 +9,8 @@ use Rattle.eap_psk.specs.declared.server.Server.{Server}
 use Rattle.eap_psk.specs.declared.peer.Peer.{Peer}
 use Rattle.line_events.specs.declared.event.Answer.TheVariants as answers
 use Rattle.line_events.specs.declared.event.Event.{Event}
-use Rattle.line_events.specs.declared.event.Event.TheVariants.{Coordinator, Meter, Depot, Near, Counter, Number, Allow, Rand, Join, Deliver, Inject, Tick, Cut}
+use Rattle.line_events.specs.declared.event.Event.TheVariants.{Coordinator, Meter, Depot, Near, Counter, Number, Allow, RandomOctets, Join, Deliver, Inject}
+use Rattle.line_events.specs.declared.event.Event.TheVariants.{Tick, Cut}
 use Rattle.line_events.specs.declared.event.Event.TheVariants.{Activate, Challenge, Kick}
 use Rattle.line_rules.specs.Worlds.{start}
 use Rattle.line_rules.specs.Runs.{run}
@@ -21,7 +22,7 @@ use Rattle.worked_scripts.specs.Scripts.{alone, up_frame, down_frame, said_of, a
 -- a meter is allowed, and asks the coordinator over the air
 abbrev pub asking : List Event
 asking =
-    Coordinator (eui 1) group_key ∷ Meter (eui 2) pair_key ∷ Allow 1 ∷ Rand 0 rand_k ∷ Rand 1 rand_r ∷ Join 1 0 ∷ []
+    Coordinator (eui 1) group_key ∷ Meter (eui 2) pair_key ∷ Allow 1 ∷ RandomOctets 0 rand_k ∷ RandomOctets 1 rand_r ∷ Join 1 0 ∷ []
 
 -- the messages of the joining come to their ends
 abbrev pub joining : List Event
@@ -47,7 +48,7 @@ AMeterJoinsOverTheAir =
 -- a third packet of an earlier session
 abbrev pub joining_again : List Event
 joining_again =
-    asking ++ (Deliver 1 0 1 ∷ Deliver 2 1 1 ∷ Deliver 3 0 1 ∷ Rand 0 rand_p ∷ Rand 1 rand_q ∷ Join 1 0 ∷ Deliver 5 0 1
+    asking ++ (Deliver 1 0 1 ∷ Deliver 2 1 1 ∷ Deliver 3 0 1 ∷ RandomOctets 0 rand_p ∷ RandomOctets 1 rand_q ∷ Join 1 0 ∷ Deliver 5 0 1
     ∷ Deliver 6 1 1 ∷ Deliver 4 1 1 ∷ [])
 
 -- A meter that has asked again hears only what answers that: the third packet of its earlier session is refused.
@@ -59,7 +60,7 @@ abbrev pub joining_without_counters : List Event
 joining_without_counters =
     Coordinator (eui 1) group_key ∷ Meter (eui 2) pair_key ∷ Counter 0 4294967295 ∷ Number 0 65535
     ∷ Counter 1 4294967295 ∷ Number 1 65535
-    ∷ Allow 1 ∷ Rand 0 rand_k ∷ Rand 1 rand_r ∷ Join 1 0 ∷ Deliver 1 0 1 ∷ Deliver 2 1 1 ∷ Deliver 3 0 1 ∷ Deliver 4 1 1
+    ∷ Allow 1 ∷ RandomOctets 0 rand_k ∷ RandomOctets 1 rand_r ∷ Join 1 0 ∷ Deliver 1 0 1 ∷ Deliver 2 1 1 ∷ Deliver 3 0 1 ∷ Deliver 4 1 1
     ∷ Deliver 5 0 1 ∷ Deliver 6 1 1 ∷ []
 
 -- Plain frames take no counter and no own number.
@@ -74,7 +75,7 @@ PlainFramesTakeNoCounter =
 abbrev pub by_agent : List Event
 by_agent =
     Coordinator (eui 1) group_key ∷ Meter (eui 2) pair_key ∷ Meter (eui 3) second_key ∷ Depot 1 ∷ Near 0 1 1 ∷ Allow 2
-    ∷ Rand 0 rand_k ∷ Rand 2 rand_r ∷ Join 2 1
+    ∷ RandomOctets 0 rand_k ∷ RandomOctets 2 rand_r ∷ Join 2 1
     ∷ Deliver 1 1 1 ∷ Deliver 2 0 1 ∷ Deliver 3 1 1 ∷ Deliver 4 2 1 ∷ Deliver 5 1 1 ∷ Deliver 6 0 1 ∷ Deliver 7 1 1
     ∷ Deliver 8 2 1 ∷ Deliver 9 1 1 ∷ Deliver 10 0 1
     ∷ Deliver 11 1 1 ∷ Deliver 12 2 1 ∷ []
@@ -132,7 +133,7 @@ first_packet = packets.head 1 1 30 0 rand_k.0 ++ (eui 1).0
 unfoldable pub ChallengesAreJudgedInOrder : Type 0
 ChallengesAreJudgedInOrder =
     answers_to asking_early
-    (challenge_by 1 (big_bytes 6 0) ∷ challenge_by 0 (big_bytes 6 0) ∷ Rand 1 rand_r ∷ challenge_by 0 (big_bytes 6 0)
+    (challenge_by 1 (big_bytes 6 0) ∷ challenge_by 0 (big_bytes 6 0) ∷ RandomOctets 1 rand_r ∷ challenge_by 0 (big_bytes 6 0)
     ∷ challenge_by 0 (big_bytes 6 0x40) ∷ challenge_by 0 (big_bytes 5 0)
     ∷ challenge_by 0 first_packet ∷ challenge_by 0 first_packet ∷ challenge_by 0 (big_bytes 6 0x40)
     ∷ Inject 1 1 (down_frame 2 1 (said_of 4 2 [])) ∷ Inject 1 1 (down_frame 2 0 (said_of 4 2 []))
@@ -231,15 +232,15 @@ asks n = Inject 0 1 (up_frame 0 n (said_of 1 n []))
 abbrev pub eight_sessions : List Event
 eight_sessions =
     alone ++ (map (λ n. Meter (eui n) pair_key) (range_with_len 2 9)
-    ++ (map (λ n. Allow n) (range_with_len 1 9) ++ (replicate 8 (Rand 0 rand_k) ++ map asks (range_with_len 2 8))))
+    ++ (map (λ n. Allow n) (range_with_len 1 9) ++ (replicate 8 (RandomOctets 0 rand_k) ++ map asks (range_with_len 2 8))))
 
 -- The coordinator has eight sessions at most; room is judged before random values, and a meter with a session needs none. A kick makes room.
 unfoldable pub EightSessionsAreOpen : Type 0
 EightSessionsAreOpen =
     (answers_after 27 eight_sessions ≡ replicate 8 answers.Challenged)
     × (answers_to eight_sessions
-    (asks 10 ∷ Challenge 9 ∷ asks 2 ∷ Challenge 1 ∷ Rand 0 rand_k ∷ asks 10 ∷ asks 2 ∷ Kick 1 ∷ asks 10
-    ∷ Rand 0 rand_k ∷ asks 10 ∷ [])
+    (asks 10 ∷ Challenge 9 ∷ asks 2 ∷ Challenge 1 ∷ RandomOctets 0 rand_k ∷ asks 10 ∷ asks 2 ∷ Kick 1 ∷ asks 10
+    ∷ RandomOctets 0 rand_k ∷ asks 10 ∷ [])
     ≡ answers.SessionsFull ∷ answers.SessionsFull ∷ answers.NoRandom ∷ answers.NoRandom ∷ answers.Given ∷ answers.SessionsFull
     ∷ answers.Challenged ∷ answers.Kicked ∷ answers.NoRandom ∷ answers.Given ∷ answers.Challenged ∷ [])
 

@@ -2,14 +2,15 @@
 use Rattle.std.specs.Prelude.{◌≡◌, ℕ, Bool, true, false, List, [], ◌∷◌, ◌++◌, length, replicate, is_some, Option, Some, None}
 use Rattle.std.specs.Option.{option_map}
 use Rattle.byteorder.specs.Endian.{big_bytes}
-use Rattle.plc_base.specs.declared.key.Rand.{Rand as RandomValue}
+use Rattle.plc_base.specs.declared.key.RandomOctets.{RandomOctets as RandomValue}
 use Rattle.eap_psk.specs.Messages as packets
 use Rattle.eap_psk.specs.declared.peer.Peer.{Peer}
 use Rattle.node_rules.specs.Memory.{Memory}
 use Rattle.node_rules.specs.declared.shown.Shown.{Shown}
 use Rattle.line_events.specs.declared.event.Answer.TheVariants as answers
 use Rattle.line_events.specs.declared.event.Event.{Event}
-use Rattle.line_events.specs.declared.event.Event.TheVariants.{Near, Counter, Number, Allow, Rand, Leave, Send, Deliver, Inject, Rekey, Activate, Challenge}
+use Rattle.line_events.specs.declared.event.Event.TheVariants.{Near, Counter, Number, Allow, RandomOctets, Leave, Send, Deliver, Inject, Rekey, Activate}
+use Rattle.line_events.specs.declared.event.Event.TheVariants.{Challenge}
 use Rattle.line_events.specs.declared.event.Event.TheVariants.{Kick, Show}
 use Rattle.line_rules.specs.Worlds.{start}
 use Rattle.line_rules.specs.Runs.{run}
@@ -23,7 +24,7 @@ use Rattle.worked_scripts.specs.Scripts.{doers, admissions, octets_of, route_at,
 abbrev pub rotation : List Event
 rotation =
     three_meters
-    ++ (Near 0 1 1 ∷ Near 0 2 1 ∷ Near 0 3 1 ∷ Kick 3 ∷ Rekey 1 second_key ∷ Rand 0 rand_k ∷ Rand 1 rand_r
+    ++ (Near 0 1 1 ∷ Near 0 2 1 ∷ Near 0 3 1 ∷ Kick 3 ∷ Rekey 1 second_key ∷ RandomOctets 0 rand_k ∷ RandomOctets 1 rand_r
     ∷ Challenge 1 ∷ Deliver 2 1 1 ∷ Deliver 3 0 1 ∷ Deliver 4 1 1 ∷ Deliver 5 0 1
     ∷ Challenge 3 ∷ Activate 0 1 ∷ Send 0 3 (0xaa ∷ []) ∷ Deliver 7 3 1 ∷ Deliver 1 3 1 ∷ Rekey 1 pair_key
     ∷ Send 2 0 (0xbb ∷ []) ∷ Rekey 0 pair_key ∷ Deliver 8 0 1 ∷ [])
@@ -46,9 +47,9 @@ RotationAndKick =
 abbrev pub taken_anew : List Event
 taken_anew =
     two_meters
-    ++ (Near 0 1 1 ∷ Rekey 1 second_key ∷ Rand 0 rand_p ∷ Rand 1 rand_q ∷ Challenge 1 ∷ Deliver 1 1 1 ∷ Deliver 2 0 1
+    ++ (Near 0 1 1 ∷ Rekey 1 second_key ∷ RandomOctets 0 rand_p ∷ RandomOctets 1 rand_q ∷ Challenge 1 ∷ Deliver 1 1 1 ∷ Deliver 2 0 1
     ∷ Deliver 3 1 1 ∷ Deliver 4 0 1
-    ∷ Activate 0 1 ∷ Rand 0 rand_k ∷ Rand 1 rand_r ∷ Challenge 1 ∷ Deliver 6 1 1 ∷ Deliver 7 0 1 ∷ Deliver 8 1 1 ∷ [])
+    ∷ Activate 0 1 ∷ RandomOctets 0 rand_k ∷ RandomOctets 1 rand_r ∷ Challenge 1 ∷ Deliver 6 1 1 ∷ Deliver 7 0 1 ∷ Deliver 8 1 1 ∷ [])
 
 -- the meter's end of the second joining
 abbrev pub second_peer : Peer
@@ -105,13 +106,13 @@ eight_sends = replicate 8 (Send 0 2 (0xaa ∷ []))
 -- An order lacks room, a number or a counter as any other command does, a challenge after its random value.
 unfoldable pub AnOrderMayLackRoom : Type 0
 AnOrderMayLackRoom =
-    (answers_to (two_meters ++ eight_sends) (Activate 1 0 ∷ Challenge 1 ∷ Rand 0 rand_k ∷ Challenge 1 ∷ Kick 1 ∷ [])
+    (answers_to (two_meters ++ eight_sends) (Activate 1 0 ∷ Challenge 1 ∷ RandomOctets 0 rand_k ∷ Challenge 1 ∷ Kick 1 ∷ [])
     ≡ answers.WaitingFull ∷ answers.NoRandom ∷ answers.Given ∷ answers.WaitingFull ∷ answers.Kicked ∷ [])
-    × (answers_to (two_meters ++ (Number 0 65535 ∷ [])) (Activate 1 0 ∷ Rand 0 rand_k ∷ Challenge 1 ∷ [])
+    × (answers_to (two_meters ++ (Number 0 65535 ∷ [])) (Activate 1 0 ∷ RandomOctets 0 rand_k ∷ Challenge 1 ∷ [])
     ≡ answers.SeqSpent ∷ answers.Given ∷ answers.SeqSpent ∷ [])
-    × (answers_to (two_meters ++ (Counter 0 4294967295 ∷ [])) (Activate 1 0 ∷ Rand 0 rand_k ∷ Challenge 1 ∷ [])
+    × (answers_to (two_meters ++ (Counter 0 4294967295 ∷ [])) (Activate 1 0 ∷ RandomOctets 0 rand_k ∷ Challenge 1 ∷ [])
     ≡ answers.CounterSpent ∷ answers.Given ∷ answers.CounterSpent ∷ [])
-    × (answers_to (two_meters ++ (Rand 0 rand_k ∷ [])) (Activate 1 0 ∷ Challenge 1 ∷ [])
+    × (answers_to (two_meters ++ (RandomOctets 0 rand_k ∷ [])) (Activate 1 0 ∷ Challenge 1 ∷ [])
     ≡ answers.Ordered ∷ answers.Challenged ∷ [])
 
 -- # Where KICK goes
@@ -134,7 +135,7 @@ KickGoesWhereItCan =
 abbrev pub holding_much : List Event
 holding_much =
     three_meters
-    ++ (Near 1 2 1 ∷ Rand 1 rand_r ∷ Rand 1 rand_k
+    ++ (Near 1 2 1 ∷ RandomOctets 1 rand_r ∷ RandomOctets 1 rand_k
     ∷ Inject 1 1 (sealed 1 2 1 (command 0 1 (joining_octets 3 2 (packets.head 1 1 30 0 rand_k.0 ++ (eui 1).0))))
     ∷ Inject 1 1 (sealed 1 3 1 (part_of 3 1 16 5 0 (replicate 8 1))) ∷ Send 1 3 (0xaa ∷ []) ∷ [])
 

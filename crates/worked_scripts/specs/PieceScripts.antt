@@ -101,7 +101,7 @@ EightAreGathered =
     (piece 9 16 8 0 1 ∷ piece 10 8 8 0 1 ∷ piece 11 16 3 1 2 ∷ piece 12 16 8 0 1 ∷ piece 13 16 9 0 1 ∷ [])
     ≡ answers.BufferFull ∷ answers.BufferFull ∷ answers.Up ∷ answers.Held ∷ answers.BufferFull ∷ [])
 
--- three datagrams of 1,280 octets have begun, and one of so many
+-- three datagrams of 1,280 octets have begun, and one of this many
 abbrev pub blocks_begun : ℕ → List Event
 blocks_begun size =
     three_meters ++ (piece 1 1280 1 0 1 ∷ piece 2 1280 2 0 1 ∷ piece 3 1280 3 0 1 ∷ piece 4 size 4 0 1 ∷ [])

@@ -143,7 +143,7 @@ sixty_four_replies = map (λ address. numbered_reply address (300 - address) add
 abbrev pub full : List Event
 full = two_meters ++ sixty_four_replies
 
--- the table after so many seconds
+-- the table after this many seconds
 abbrev pub full_after : ℕ → List Event
 full_after seconds = full ++ (Tick seconds ∷ [])
 
@@ -211,7 +211,7 @@ FloorsAreStoredFirst =
 abbrev pub error_of : (sender counter : ℕ) → Event
 error_of sender counter = Inject 1 1 (sealed 1 sender counter (routing_unit (Rerr 9 1)))
 
--- so many senders are heard
+-- this many senders are heard
 abbrev pub senders : ℕ → List Event
 senders count = two_meters ++ map (λ sender. error_of sender 5) (range_with_len 100 count)
 

@@ -8,10 +8,10 @@ use Rattle.plc_base.specs.declared.address.Eui.{Eui}
 use Rattle.plc_base.specs.Faults.{◌then◌, ◌unless◌}
 use Rattle.plc_base.specs.Fields.{octet, part, after}
 use Rattle.plc_base.specs.declared.key.Key.{Key}
-use Rattle.plc_base.specs.declared.key.Rand.{Rand}
+use Rattle.plc_base.specs.declared.key.RandomOctets.{RandomOctets}
 use Rattle.plc_base.specs.Grant.{Granted}
 use Rattle.plc_base.specs.Keeper.{Records, Write}
-use Rattle.joining_messages.specs.Reading.{grant_in}
+use Rattle.joining_messages.specs.Reader.{grant_in}
 use Rattle.eap_psk.specs.Messages as packets
 use Rattle.eap_psk.specs.Faults.{rand_s_of, is_second, is_third, is_fourth, is_granting}
 use Rattle.eap_psk.specs.declared.fault.EapFault.{EapFault}
@@ -31,7 +31,7 @@ use Rattle.loadng_messages.specs.Grammar as messages
 use Rattle.node_rules.specs.Ciphers.{Ciphers}
 use Rattle.node_rules.specs.Frames.{Sealed, spelled}
 use Rattle.node_rules.specs.declared.heard.Path.TheVariants as paths
-use Rattle.node_rules.specs.Hearing.{hear}
+use Rattle.node_rules.specs.HearingRules.{hear}
 use Rattle.node_rules.specs.Memory.{Node, Memory, node_route}
 use Rattle.line_rules.specs.Worlds.{World, Flight, start, node_at, flight_at}
 use Rattle.line_events.specs.declared.happenings.Handed.{Handed}
@@ -48,13 +48,13 @@ use Rattle.line_rules.specs.Runs.{Entry, run, one_of}
 abbrev pub plain_tag : Key → List ℕ
 plain_tag key = take 4 (key.0 ++ 0 ∷ 0 ∷ 0 ∷ 0 ∷ [])
 
--- the octets in front of the tag, where the tag is that of the key
+-- the octets before the tag, where the tag is that of the key
 abbrev pub plainly_opened : Key → List ℕ → Option (List ℕ)
 plainly_opened key body =
     if bytes_eq (drop (length body - 4) body) (plain_tag key) then Some (take (length body - 4) body) else None
 
 -- a MAC is the pair key, with RAND_P in the third packet, and a channel is its nonce, the RAND_P as a tag and its text
-abbrev pub plain_channel : ℕ → Rand → List ℕ → List ℕ
+abbrev pub plain_channel : ℕ → RandomOctets → List ℕ → List ℕ
 plain_channel nonce rand_p text = big_bytes 4 nonce ++ (rand_p.0 ++ text)
 
 -- the second packet, with the pair key as its MAC
@@ -63,7 +63,7 @@ plain_second psk identifier peer =
     packets.head 2 identifier 62 1 peer.rand_s.0 ++ (peer.rand_p.0 ++ (psk.0 ++ peer.eui.0))
 
 -- the third packet, with the pair key as its MAC
-abbrev pub plain_third : Key → Server → Rand → Granted → List ℕ
+abbrev pub plain_third : Key → Server → RandomOctets → Granted → List ℕ
 plain_third psk server rand_p granted =
     packets.third_head 2 server.rand_s.0 (length (packets.granting_text granted))
     ++ (psk.0 ++ plain_channel 0 rand_p (packets.granting_text granted))
@@ -91,7 +91,7 @@ plain_third_fault psk peer packet =
     then Some NoSuccess unless is_granting (after 58 packet)
 
 -- the first fault of a fourth packet
-abbrev pub plain_fourth_fault : Key → Server → Rand → List ℕ → Option EapFault
+abbrev pub plain_fourth_fault : Key → Server → RandomOctets → List ℕ → Option EapFault
 plain_fourth_fault psk server rand_p packet =
     Some Form unless is_fourth packet
     then Some OtherSession unless bytes_eq (rand_s_of packet) server.rand_s.0
@@ -131,17 +131,17 @@ abbrev pub second_key : Key
 second_key = record { 0 = big_bytes 16 0x202122232425262728292a2b2c2d2e2f }
 
 -- a random value for the coordinator, and one for a meter
-abbrev pub rand_k : Rand
+abbrev pub rand_k : RandomOctets
 rand_k = record { 0 = group_key.0 }
 
-abbrev pub rand_r : Rand
+abbrev pub rand_r : RandomOctets
 rand_r = record { 0 = big_bytes 16 0xf0f1f2f3f4f5f6f7f8f9fafbfcfdfeff }
 
 -- one more for each
-abbrev pub rand_p : Rand
+abbrev pub rand_p : RandomOctets
 rand_p = record { 0 = pair_key.0 }
 
-abbrev pub rand_q : Rand
+abbrev pub rand_q : RandomOctets
 rand_q = record { 0 = second_key.0 }
 
 -- the coordinator alone
@@ -225,7 +225,7 @@ abbrev pub world_behind : World → List Entry → World
 world_behind w [] = w
 world_behind w (x ∷ rest) = world_behind x.after rest
 
--- the answers after so many events
+-- the answers after this many events
 abbrev pub answers_after : ℕ → List Event → List Answer
 answers_after count events = map (λ (x : Entry). x.trace.happenings.answer) (drop count (run plain start events))
 

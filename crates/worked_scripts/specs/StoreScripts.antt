@@ -12,7 +12,8 @@ use Rattle.node_rules.specs.Calls as calls
 use Rattle.node_rules.specs.Drafts.{tag_after}
 use Rattle.line_events.specs.declared.event.Answer.TheVariants as answers
 use Rattle.line_events.specs.declared.event.Event.{Event}
-use Rattle.line_events.specs.declared.event.Event.TheVariants.{Coordinator, Meter, Near, Counter, Number, Allow, Rand, Join, Leave, Send, Deliver, Inject, Tick}
+use Rattle.line_events.specs.declared.event.Event.TheVariants.{Coordinator, Meter, Near, Counter, Number, Allow, RandomOctets, Join, Leave, Send, Deliver}
+use Rattle.line_events.specs.declared.event.Event.TheVariants.{Inject, Tick}
 use Rattle.line_events.specs.declared.event.Event.TheVariants.{Cut, Rekey, Activate, Challenge, Kick}
 use Rattle.worked_scripts.specs.Scripts.{eui, group_key, pair_key, second_key, rand_k, rand_r, alone, one_meter, two_meters, sealed, everyone, routing_unit}
 use Rattle.worked_scripts.specs.Scripts.{command, joining_octets, answers_after, answers_to, counts_of, octets_of, memory_at, records_at, with_writes}
@@ -46,7 +47,7 @@ asked_writes =
     ∷ record { slot = 2; octets = big_bytes 4 1024 }
     ∷ []
 
--- so many of them, after what the workshop stored
+-- this many of them, after what the workshop stored
 abbrev pub asked_stored : ℕ → Option Records
 asked_stored count = with_writes (take count asked_writes) (records_at two_meters 1)
 
@@ -171,7 +172,7 @@ WhatDoesNotChangeIsNotStored =
 abbrev pub calls_under_cuts : List (List Event)
 calls_under_cuts =
     (Cut 1 1 false ∷ Leave 1 ∷ []) ∷ (Cut 1 1 true ∷ Send 1 0 (0xaa ∷ []) ∷ [])
-    ∷ (Cut 0 1 false ∷ Rekey 1 second_key ∷ []) ∷ (Cut 0 1 false ∷ Rand 0 rand_k ∷ Challenge 1 ∷ [])
+    ∷ (Cut 0 1 false ∷ Rekey 1 second_key ∷ []) ∷ (Cut 0 1 false ∷ RandomOctets 0 rand_k ∷ Challenge 1 ∷ [])
     ∷ (Cut 0 1 true ∷ Activate 1 0 ∷ []) ∷ (Cut 0 1 false ∷ Kick 1 ∷ [])
     ∷ (Cut 1 2 false ∷ Cut 1 1 false ∷ Leave 1 ∷ []) ∷ []
 
@@ -186,7 +187,7 @@ EachCallMayFail =
 -- a joining over the air, to its third packet
 abbrev pub keyed : List Event
 keyed =
-    alone ++ (Meter (eui 2) pair_key ∷ Allow 1 ∷ Rand 0 rand_k ∷ Rand 1 rand_r ∷ Join 1 0 ∷ Deliver 1 0 1
+    alone ++ (Meter (eui 2) pair_key ∷ Allow 1 ∷ RandomOctets 0 rand_k ∷ RandomOctets 1 rand_r ∷ Join 1 0 ∷ Deliver 1 0 1
     ∷ Deliver 2 1 1 ∷ Deliver 3 0 1 ∷ [])
 
 -- The keys of a grant are stored as issued when they go out, and the meter stores its ring before it answers; nothing else of a joining over

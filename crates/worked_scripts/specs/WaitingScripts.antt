@@ -114,7 +114,7 @@ SeekingTakesANumber =
 
 -- # Counters
 
--- so many counters are gone
+-- this many counters are gone
 abbrev pub gone : ℕ → List Event
 gone counters = two_meters ++ (Counter 1 counters ∷ [])
 
@@ -127,7 +127,7 @@ SeekingTakesACounter =
     (Send 1 2 (replicate 376 7) ∷ Send 1 2 (0xaa ∷ []) ∷ Send 1 2 (0xaa ∷ []) ∷ [])
     ≡ answers.CounterSpent ∷ answers.Sent ∷ answers.CounterSpent ∷ [])
 
--- a datagram of two pieces and one of one frame wait, with so many counters gone before the request
+-- a datagram of two pieces and one of one frame wait, with this many counters gone before the request
 abbrev pub three_frames_wait : ℕ → List Event
 three_frames_wait counters = gone counters ++ (Send 1 2 (replicate 376 7) ∷ Send 1 2 (0xaa ∷ []) ∷ [])
 

@@ -4,7 +4,7 @@ use Rattle.byteorder.specs.Endian.{big_bytes}
 use Rattle.eap_psk.specs.Messages as packets
 use Rattle.line_events.specs.declared.event.Answer.TheVariants as answers
 use Rattle.line_events.specs.declared.event.Event.{Event}
-use Rattle.line_events.specs.declared.event.Event.TheVariants.{Coordinator, Meter, Near, Counter, Number, Rand, Join, Send, Inject}
+use Rattle.line_events.specs.declared.event.Event.TheVariants.{Coordinator, Meter, Near, Counter, Number, RandomOctets, Join, Send, Inject}
 use Rattle.worked_scripts.specs.Scripts.{eui, group_key, pair_key, rand_k, rand_r, two_meters, sealed, command, joining_octets, up_frame, down_frame, said_of}
 use Rattle.worked_scripts.specs.Scripts.{answers_to, octets_of}
 
@@ -133,10 +133,10 @@ AnAnswerByCommandMayLackRoom =
     (answers_to (two_meters ++ eight_waiting 1) a_join ≡ answers.BufferFull ∷ [])
     × (answers_to (two_meters ++ (Number 1 65535 ∷ [])) a_join ≡ answers.SeqSpent ∷ [])
     × (answers_to (two_meters ++ (Counter 1 4294967295 ∷ [])) a_join ≡ answers.CounterSpent ∷ [])
-    × (answers_to (two_meters ++ (Rand 1 rand_r ∷ eight_waiting 1)) a_challenge ≡ answers.BufferFull ∷ [])
-    × (answers_to (two_meters ++ (Number 1 65535 ∷ Rand 1 rand_r ∷ [])) a_challenge ≡ answers.SeqSpent ∷ [])
-    × (answers_to (two_meters ++ (Counter 1 4294967295 ∷ Rand 1 rand_r ∷ [])) a_challenge ≡ answers.CounterSpent ∷ [])
-    × (answers_to (two_meters ++ (Rand 1 rand_r ∷ [])) a_challenge ≡ answers.Replied ∷ [])
+    × (answers_to (two_meters ++ (RandomOctets 1 rand_r ∷ eight_waiting 1)) a_challenge ≡ answers.BufferFull ∷ [])
+    × (answers_to (two_meters ++ (Number 1 65535 ∷ RandomOctets 1 rand_r ∷ [])) a_challenge ≡ answers.SeqSpent ∷ [])
+    × (answers_to (two_meters ++ (Counter 1 4294967295 ∷ RandomOctets 1 rand_r ∷ [])) a_challenge ≡ answers.CounterSpent ∷ [])
+    × (answers_to (two_meters ++ (RandomOctets 1 rand_r ∷ [])) a_challenge ≡ answers.Replied ∷ [])
     × (answers_to (two_meters ++ eight_waiting 0) a_join_by_command ≡ answers.BufferFull ∷ [])
     × (answers_to (two_meters ++ (Number 0 65535 ∷ [])) a_join_by_command ≡ answers.SeqSpent ∷ [])
     × (answers_to (two_meters ++ (Counter 0 4294967295 ∷ [])) a_join_by_command ≡ answers.CounterSpent ∷ [])

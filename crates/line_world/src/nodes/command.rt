@@ -1,8 +1,8 @@
 //! Commands for the neighbours, as a node of the line hears them.
 ghost use Rattle.std.specs.Prelude.{◌≡◌, Some};
 ghost use Rattle.std.specs.Option.{option_map};
-ghost use Rattle.reach_rules.specs.Receiving as receiving;
-ghost use Rattle.line_world.specs.Reaching.{command_of};
+ghost use Rattle.reach_rules.specs.FurtherReceptions as further_receptions;
+ghost use Rattle.line_world.specs.FurtherOutcomes.{command_of};
 
 use line_events::{Answer, BroadcastUp, PathLine};
 use mesh_header::Unit;
@@ -35,7 +35,7 @@ pub struct Commanded<'a> {
 
 // The command that a unit is, if it is one: 01 is a route message, and 02 a joining command.
 fn command_with<'a>(from: Short, to_all: bool, unit: &Unit<'a>) -> Option<CommandRef<'a>>
-    ensures { option_map command_of result ≡ receiving.command_with from to_all (Some unit.now) }
+    ensures { option_map command_of result ≡ further_receptions.command_with from to_all (Some unit.now) }
 {
     match unit {
         Unit::Local { code, body } => {
@@ -60,7 +60,7 @@ fn command_with<'a>(from: Short, to_all: bool, unit: &Unit<'a>) -> Option<Comman
 
 /// The command that came on this path, if one came: a plain frame carries none.
 pub(crate) fn command_on<'a>(path: &Path, unit: &Option<Unit<'a>>) -> Option<CommandRef<'a>>
-    ensures { option_map command_of result ≡ receiving.command_on path.now unit.now }
+    ensures { option_map command_of result ≡ further_receptions.command_on path.now unit.now }
 {
     let Some(unit) = unit else {
         return None;

@@ -7,9 +7,9 @@ ghost use Rattle.store_tables.specs.SlotTables.{read_into};
 ghost use Rattle.reach_rules.specs.Beacons.{cost_to_coordinator};
 ghost use Rattle.reach_rules.specs.Broadcasts as broadcast_rules;
 ghost use Rattle.reach_rules.specs.CheckedReplies.{acknowledges};
-ghost use Rattle.reach_rules.specs.PathAsking.{ask_path};
+ghost use Rattle.reach_rules.specs.PathRequests.{ask_path};
 ghost use Rattle.reach_rules.specs.ReachingNodes.{restarted};
-ghost use Rattle.line_world.specs.Reaching.{DidAfter, IsLogOf, ReachedCommand, ReachedFirst, command_of};
+ghost use Rattle.line_world.specs.FurtherOutcomes.{DidAfter, IsLogOf, ReachedCommand, ReachedFirst, command_of};
 ghost use Rattle.plc_base.specs.declared.limits.TheConstants.{MOST_FRAMES};
 
 use crate::beside::Beside;

@@ -4,7 +4,7 @@ ghost use Rattle.node_rules.specs.Ciphers.{network};
 ghost use Rattle.node_rules.specs.Replies.{reply_among};
 ghost use Rattle.reach_rules.specs.CheckedReplies.{message_of};
 ghost use Rattle.line_rules.specs.Steps.{hearing_step};
-ghost use Rattle.line_world.specs.Receiving.{MayHear, Received};
+ghost use Rattle.line_world.specs.Receptions.{MayHear, Received};
 
 use crate::nodes::Nodes;
 use crate::nodes::node_receptions::{reception_of, reception_of_coordinator, reception_of_meter};

@@ -1,6 +1,6 @@
 //! What a meter does about its joining, and the random values of every node.
 ghost use Rattle.std.specs.Prelude.{◌≤◌, ◌<◌, length, Ok, Err, IfSome, IsSome, slice_get};
-ghost use Rattle.node_rules.specs.Carrying.{nothing};
+ghost use Rattle.node_rules.specs.CarriedPlans.{nothing};
 ghost use Rattle.node_rules.specs.Ciphers.{network};
 ghost use Rattle.node_rules.specs.MemoryDrafts as drafts;
 ghost use Rattle.node_rules.specs.Meters as meters;
@@ -10,11 +10,11 @@ ghost use Rattle.line_world.specs.NodeOutcomes.{Did};
 
 use crate::nodes::Nodes;
 use node_rules::{JoinRefusal, LeaveRefusal, RandomFault, RingRefusal};
-use plc_base::{Grant, Out, Rand, Short};
+use plc_base::{Grant, Out, RandomOctets, Short};
 
 impl Nodes {
     /// A node takes a random value in.
-    pub fn give_random(&mut self, number: usize, value: Rand) -> Result<(), RandomFault>
+    pub fn give_random(&mut self, number: usize, value: RandomOctets) -> Result<(), RandomFault>
         requires there { number < length self.old }
         ensures { IfSome (slice_get self.old number) (λ x. Did
             (acts x (Err RandomFault.Halted) (λ m. drafts.give_random m value))

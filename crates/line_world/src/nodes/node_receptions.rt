@@ -1,7 +1,7 @@
 //! Receptions of what a node heard: a word, and what came up with it.
 ghost use Rattle.std.specs.Prelude.{◌≡◌, false, None, Ok};
 ghost use Rattle.line_rules.specs.Answers as rules;
-ghost use Rattle.line_world.specs.Receiving.{ReportsReception};
+ghost use Rattle.line_world.specs.Receptions.{ReportsReception};
 
 use crate::nodes::reception::{HandedUp, Reception};
 use line_events::Answer;

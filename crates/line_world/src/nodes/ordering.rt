@@ -1,6 +1,6 @@
 //! What the coordinator does for the operator.
 ghost use Rattle.std.specs.Prelude.{◌<◌, length, Err, IfSome, slice_get};
-ghost use Rattle.node_rules.specs.Carrying.{nothing};
+ghost use Rattle.node_rules.specs.CarriedPlans.{nothing};
 ghost use Rattle.node_rules.specs.Coordinators as rules;
 ghost use Rattle.node_rules.specs.NodeSteps.{acts};
 ghost use Rattle.line_world.specs.NodeOutcomes.{Did};

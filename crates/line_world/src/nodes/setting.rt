@@ -1,7 +1,7 @@
 //! What the workshop sets at a node. A halted node stays as it is.
 ghost use Rattle.std.specs.Prelude.{◌≡◌, ◌≤◌, ◌<◌, length, Ok, IfSome, slice_get};
 ghost use Rattle.node_rules.specs.Calls as calls;
-ghost use Rattle.node_rules.specs.Carrying.{nothing};
+ghost use Rattle.node_rules.specs.CarriedPlans.{nothing};
 ghost use Rattle.node_rules.specs.NodeSteps.{acts, of_station};
 ghost use Rattle.line_rules.specs.Steps.{keeps_rank, ranks_full};
 ghost use Rattle.line_world.specs.NodeOutcomes.{Did};

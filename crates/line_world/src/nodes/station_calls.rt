@@ -1,16 +1,16 @@
 //! What a node's station does for the line: it accepts and sends, and its links break.
 ghost use Rattle.std.specs.Prelude.{◌≡◌, ◌<◌, length, Err, IfSome, IfOk, slice_get};
-ghost use Rattle.node_rules.specs.Accepting as accepting;
+ghost use Rattle.node_rules.specs.Acceptance as acceptance;
 ghost use Rattle.node_rules.specs.Calls as calls;
-ghost use Rattle.node_rules.specs.Carrying.{nothing};
+ghost use Rattle.node_rules.specs.CarriedPlans.{nothing};
 ghost use Rattle.node_rules.specs.Ciphers.{network};
 ghost use Rattle.node_rules.specs.Frames.{arrived};
 ghost use Rattle.node_rules.specs.MemoryDrafts.{with_station};
 ghost use Rattle.node_rules.specs.NodeSteps.{acts, of_station, changing};
-ghost use Rattle.node_rules.specs.Showing.{shown_of};
+ghost use Rattle.node_rules.specs.ShownNodes.{shown_of};
 ghost use Rattle.line_events.specs.declared.event.Answer.TheVariants as answers;
 ghost use Rattle.line_world.specs.NodeOutcomes.{Did};
-ghost use Rattle.line_world.specs.Receiving.{MayHear};
+ghost use Rattle.line_world.specs.Receptions.{MayHear};
 
 use crate::nodes::Nodes;
 use crate::nodes::station_steps::break_at;
@@ -29,7 +29,7 @@ impl Nodes {
     ) -> Result<Accepted<'a>, FrameRefusal>
         requires there { number < length self.old }
         ensures did { IfSome (slice_get self.old number) (λ x. Did
-            (acts x (Err FrameRefusal.Halted) (λ m. of_station m (accepting.accept m.station x.eui
+            (acts x (Err FrameRefusal.Halted) (λ m. of_station m (acceptance.accept m.station x.eui
             (arrived network octets.now)))) self.old number result nothing self.new) }
         ensures hears { IfOk result (λ got. IfSome (slice_get self.new number) (λ x. MayHear x got)) }
     {

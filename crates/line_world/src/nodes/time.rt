@@ -1,6 +1,6 @@
 //! Time, losses of power, and restarts.
 ghost use Rattle.std.specs.Prelude.{◌≡◌, ◌≤◌, ◌<◌, length, map, All, Some, IfSome, slice_get};
-ghost use Rattle.node_rules.specs.Carrying.{nothing};
+ghost use Rattle.node_rules.specs.CarriedPlans.{nothing};
 ghost use Rattle.node_rules.specs.NodeSteps.{stays};
 ghost use Rattle.line_rules.specs.Steps.{ticked, restarts};
 ghost use Rattle.line_events.specs.declared.event.Answer.TheVariants as answers;

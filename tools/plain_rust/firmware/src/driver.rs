@@ -4,7 +4,7 @@ use core::mem::MaybeUninit;
 use meter_node::Meter;
 use node_rules::{Came, Heard, MeterHeard, Unheard};
 use plc_station::{Buffers, OpenFault};
-use plc_base::{DatagramBuf, Eui, FrameBuf, Grant, Key, LinkCost, Out, Rand, Short};
+use plc_base::{DatagramBuf, Eui, FrameBuf, Grant, Key, LinkCost, Out, RandomOctets, Short};
 use rattle_std::alloc::Global;
 
 /// The power line and what stands behind the meter.
@@ -77,7 +77,7 @@ impl Driver {
     }
 
     /// Gives 16 octets of the random source, which it never gave before: one call before each `join`.
-    pub fn give_random(&mut self, value: Rand) -> Result<(), Trouble> {
+    pub fn give_random(&mut self, value: RandomOctets) -> Result<(), Trouble> {
         self.meter.give_random(value).map_err(|_| self.trouble())
     }
 

@@ -4,7 +4,7 @@ use coordinator::Coordinator;
 use firmware::Flash;
 use meter_node::Meter;
 use node_rules::{Came, LocalRefusal, PresetFault, RingRefusal};
-use plc_base::{DatagramBuf, Eui, FrameBuf, Grant, Key, KeyIndex, LinkCost, MOST_FRAMES, Out, Rand, Short};
+use plc_base::{DatagramBuf, Eui, FrameBuf, Grant, Key, KeyIndex, LinkCost, MOST_FRAMES, Out, RandomOctets, Short};
 use plc_station::{Buffers, Station};
 use rattle_std::alloc::Global;
 use std::panic::{AssertUnwindSafe, catch_unwind};
@@ -171,7 +171,7 @@ fn a_coordinator_that_has_not_address_0000_stops() {
     stops("coordinator: rekey: holds", || homeless().rekey(KeyIndex::first(), &key()));
     stops("coordinator: activate_self: holds", || homeless().activate_self(KeyIndex::first()));
     stops("coordinator: kick: holds", || homeless().kick(Eui([2; 8]), &mut out()));
-    stops("coordinator: give_random: holds", || homeless().give_random(Rand([1; 16])));
+    stops("coordinator: give_random: holds", || homeless().give_random(RandomOctets([1; 16])));
     stops("coordinator: activate: holds", || homeless().activate(Eui([2; 8]), KeyIndex::first(), 0, &mut out()));
 }
 

@@ -5,7 +5,7 @@
 use core::ffi::c_void;
 use core::hint::black_box;
 use flash_keeper::{FlashBank, FlashKeeper};
-use plc_base::{DatagramBuf, Eui, Failed, Keeper, Key, KeyIndex, LinkCost, Out, Rand, Record, Short};
+use plc_base::{DatagramBuf, Eui, Failed, Keeper, Key, KeyIndex, LinkCost, Out, RandomOctets, Record, Short};
 
 unsafe extern "C" {
     fn bank_read(bank: u32, at: usize) -> u64;
@@ -48,7 +48,7 @@ pub struct Event {
     pub call: usize,
     pub eui: Eui,
     pub key: Key,
-    pub random: Rand,
+    pub random: RandomOctets,
     pub index: KeyIndex,
     pub short: Short,
     pub cost: LinkCost,

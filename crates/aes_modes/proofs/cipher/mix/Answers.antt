@@ -3,7 +3,7 @@ use lib.Lanes.{zip2}
 use Rattle.aes_modes.specs.LookUps.{entry}
 use Rattle.aes_modes.specs.Rounds.{own, next}
 use Rattle.aes_modes.specs.declared.cipher.TheConstants.{ROW_AFTER}
-use Rattle.aes_modes.proofs.Mixing.{mixed_is}
+use Rattle.aes_modes.proofs.MixedColumns.{mixed_is}
 use Rattle.aes_modes.proofs.cipher.mix.Goals as goal
 
 pub returns : goal.returns

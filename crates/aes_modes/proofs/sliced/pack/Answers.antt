@@ -1,5 +1,5 @@
 use Rattle.std.proofs.Common.{[], ◌∷◌, arith}
-use Rattle.aes_modes.proofs.Packing.{packed_0, packed_1}
+use Rattle.aes_modes.proofs.PackedBlocks.{packed_0, packed_1}
 use Rattle.aes_modes.proofs.sliced.pack.Goals as goal
 
 pub returns-clause-first : goal.returns-clause-first

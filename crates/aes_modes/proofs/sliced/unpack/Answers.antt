@@ -1,5 +1,5 @@
 use Rattle.std.proofs.Common.{◌∙◌, arith}
-use Rattle.aes_modes.proofs.Packing.{unpacked_0, unpacked_1}
+use Rattle.aes_modes.proofs.PackedBlocks.{unpacked_0, unpacked_1}
 use Rattle.aes_modes.proofs.sliced.unpack.Goals as goal
 
 pub returns-clause-first : goal.returns-clause-first

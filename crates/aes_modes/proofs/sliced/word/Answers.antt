@@ -1,6 +1,6 @@
 use Rattle.std.proofs.Common.{[], ◌∷◌, refl}
 use Rattle.std.proofs.lemmas.Nat.{le_bytes_4}
-use Rattle.aes_modes.proofs.Packing.{four_octets}
+use Rattle.aes_modes.proofs.PackedBlocks.{four_octets}
 use Rattle.aes_modes.proofs.sliced.word.Goals as goal
 
 pub returns : goal.returns

@@ -1,5 +1,5 @@
 use Rattle.std.proofs.Common.{◌≡◌, length, arith}
-use Rattle.block_pool.proofs.Padding.{set_here, pushed}
+use Rattle.block_pool.proofs.PaddedTables.{set_here, pushed}
 use Rattle.block_pool.proofs.numbers.set_slot.Goals as goal
 
 pub returns-then-place-len-clause-items : goal.returns-then-place-len-clause-items

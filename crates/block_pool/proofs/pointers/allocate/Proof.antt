@@ -47,7 +47,7 @@ use Rattle.core.proofs.slots.Bodies.{after, head, arm_body}
 use Rattle.core.proofs.slots.Leases.{uncapped, block_ty, block_size, block_align, args, P}
 use Rattle.core.proofs.slots.Places.{sz, of_room}
 use Rattle.block_pool.proofs.Deeds.{DeedOf, deed_of, deed_words, deed_made}
-use Rattle.block_pool.proofs.Opening.{CellsOf, words, cells_made}
+use Rattle.block_pool.proofs.OpenedCells.{CellsOf, words, cells_made}
 use Rattle.core.specs.Mem.Slots.Ownership.{slots}
 use Rattle.core.specs.Result.{IfOk}
 use Rattle.core.specs.declared.result.Result.TheVariants.{Ok, Err}

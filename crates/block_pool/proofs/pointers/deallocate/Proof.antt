@@ -35,7 +35,7 @@ use Rattle.core.proofs.slots.Bodies.{after}
 use Rattle.core.proofs.slots.Leases.{uncapped, block_ty, block_size, block_align, args, P}
 use Rattle.core.proofs.slots.Places.{sz, to_room}
 use Rattle.block_pool.proofs.Deeds.{DeedOf, deed_words, deed_had}
-use Rattle.block_pool.proofs.Opening.{CellsOf, cells_had}
+use Rattle.block_pool.proofs.OpenedCells.{CellsOf, cells_had}
 use Rattle.block_pool.specs.declared.cells.Cells.{Cells}
 use Rattle.block_pool.specs.contracts.pointers.deallocate as F
 use Rattle.block_pool.specs.contracts.pointers.deallocate.Key.{name as key}

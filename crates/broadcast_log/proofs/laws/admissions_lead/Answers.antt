@@ -1,4 +1,4 @@
-use Rattle.broadcast_log.proofs.Leading.{admission_leads}
+use Rattle.broadcast_log.proofs.LogPuts.{admission_leads}
 use Rattle.broadcast_log.proofs.laws.admissions_lead.Goals as goal
 
 pub returns : goal.returns

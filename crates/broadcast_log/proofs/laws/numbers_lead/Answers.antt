@@ -1,4 +1,4 @@
-use Rattle.broadcast_log.proofs.Leading.{number_leads}
+use Rattle.broadcast_log.proofs.LogPuts.{number_leads}
 use Rattle.broadcast_log.proofs.laws.numbers_lead.Goals as goal
 
 pub returns : goal.returns

@@ -2,8 +2,8 @@ use Rattle.std.proofs.Common.{[], sym, ap, ◌∙◌}
 use Rattle.std.specs.Prelude.{is_some}
 use Rattle.std.specs.Option.{option_map}
 use Rattle.group_keys.specs.KeyRing.{Ring}
-use Rattle.node_rules.specs.StoreReading.{first_grant}
-use Rattle.plc_station.proofs.Carrying.{if_some, at_some}
+use Rattle.node_rules.specs.RestartStates.{first_grant}
+use Rattle.plc_station.proofs.CarriedPlans.{if_some, at_some}
 use Rattle.coordinator.specs.CoordinatorStates.{memory_in, state_in}
 use Rattle.coordinator.proofs.Beginnings.{rests}
 use Rattle.coordinator.proofs.opening.begin.Goals as goal

@@ -1,6 +1,6 @@
 use Rattle.std.proofs.Common.{[], ◌∙◌}
-use Rattle.plc_station.proofs.Carrying.{if_some, at_some}
-use Rattle.coordinator.proofs.Storing.{by_some}
+use Rattle.plc_station.proofs.CarriedPlans.{if_some, at_some}
+use Rattle.coordinator.proofs.StoredChanges.{by_some}
 use Rattle.coordinator.proofs.Beginnings.{ring_reads, store_reads, first_stored, first_unstored, first_holds}
 use Rattle.coordinator.proofs.opening.store_first.Goals as goal
 

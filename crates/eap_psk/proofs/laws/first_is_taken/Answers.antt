@@ -1,5 +1,5 @@
 use Rattle.eap_psk.proofs.Named.{first_same}
-use Rattle.eap_psk.proofs.Passing.{first_taken}
+use Rattle.eap_psk.proofs.PassedMessages.{first_taken}
 use Rattle.eap_psk.proofs.laws.first_is_taken.Goals as goal
 
 pub returns-clause-taken : goal.returns-clause-taken

@@ -1,5 +1,5 @@
 use Rattle.eap_psk.proofs.Named.{third_same}
-use Rattle.eap_psk.proofs.Passing.{third_taken}
+use Rattle.eap_psk.proofs.PassedMessages.{third_taken}
 use Rattle.eap_psk.proofs.laws.third_is_taken.Goals as goal
 
 pub returns-clause-taken : goal.returns-clause-taken

@@ -9,5 +9,5 @@ returns-then-is_blank-clause-found g c = λ n choice left.
 
 pub returns-clause-found : goal.returns-clause-found
 returns-clause-found g c = λ n choice left.
-    found_none (g.B.FlashBank.bank c.args.bank.now) n c.loop-cell.cell c.room_of-count.result choice left (c.loop-cell.invariant.low n choice left)
-    c.loop-cell.invariant.below (λ less. omega (arith, less, c.loop-cell-test.false)) c.room_of-count.ensures
+    found_none (g.B.FlashBank.bank c.args.bank.now) n c.loop-cell.cell c.cell_count-count.result choice left (c.loop-cell.invariant.low n choice left)
+    c.loop-cell.invariant.below (λ less. omega (arith, less, c.loop-cell-test.false)) c.cell_count-count.ensures

@@ -27,5 +27,5 @@ returns-clause-decayed g c = λ is k less decayed. c.loop-cell.invariant.fine k 
   arith,
   less,
   c.loop-cell-test.false,
-  c.room_of-count.ensures,
+  c.cell_count-count.ensures,
 )) decayed

@@ -1,5 +1,5 @@
 use Rattle.std.proofs.Common.{refl}
-use Rattle.fragment_buffers.specs.Taking.{taken, taken_in, unexpired}
+use Rattle.fragment_buffers.specs.PieceIntake.{taken, taken_in, unexpired}
 use Rattle.fragment_buffers.specs.Reassembly.{datagram_of}
 use Rattle.fragment_buffers.proofs.laws.an_overlap_begins_anew.Goals as goal
 

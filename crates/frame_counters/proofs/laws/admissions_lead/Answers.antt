@@ -1,4 +1,4 @@
-use Rattle.frame_counters.proofs.Leading.{admission_leads}
+use Rattle.frame_counters.proofs.AdmissionPuts.{admission_leads}
 use Rattle.frame_counters.proofs.laws.admissions_lead.Goals as goal
 
 pub returns : goal.returns

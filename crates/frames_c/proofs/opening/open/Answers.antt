@@ -2,8 +2,8 @@ use Rattle.std.proofs.Common.{length, sym, ap, ◌∙◌, arith}
 use Rattle.frames_c.proofs.Lengths.{sealed_length, when_ok}
 use Rattle.frames_c.proofs.opening.open.Goals as goal
 
-pub copy_to-requires : goal.copy_to-requires
-copy_to-requires c =
+pub write_front-requires : goal.write_front-requires
+write_front-requires c =
     let s = when_ok c.open_frame.result (sym c.is_err.ensures.value ∙ c.if-is_err.false) c.open_frame.ensures.opened in
     omega (arith, sealed_length _ _ _ _ s, ap length c.in-Some-sealed_frame.ensures.places.3, ap length c.octets.ensures.value, c.if-payload-frame.false)
 

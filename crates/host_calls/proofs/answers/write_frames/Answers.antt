@@ -1,7 +1,7 @@
 use Rattle.std.proofs.Common.{◌+◌, drop, refl}
 use Rattle.std.proofs.lemmas.Result.{err_from_is_err_and}
 use Rattle.host_calls.specs.Answers.{frame_text, frames_text}
-use Rattle.host_calls.proofs.Writing.{all, one_next, one_more, one_less}
+use Rattle.host_calls.proofs.WrittenTexts.{all, one_next, one_more, one_less}
 use Rattle.host_calls.proofs.answers.write_frames.Goals as goal
 
 pub returns-in_err-write_frame : goal.returns-in_err-write_frame

@@ -1,5 +1,5 @@
 use Rattle.std.proofs.Common.{◌≡◌, List, ℕ, ◌++◌, drop}
-use Rattle.host_calls.proofs.Writing.{Wrote}
+use Rattle.host_calls.proofs.WrittenTexts.{Wrote}
 use Rattle.host_calls.specs.Answers.{frames_text}
 use Rattle.host_calls.proofs.answers.write_frames.Given as goal
 

@@ -1,6 +1,6 @@
 use Rattle.std.proofs.Common.{◌≡◌, ◌≤◌, take}
 use Rattle.std.specs.List.{fold}
-use Rattle.line_air.specs.Disturbing.{loss_after}
+use Rattle.line_air.specs.Disturbances.{loss_after}
 use Rattle.line_air.proofs.disturbances.loss_with.Given as goal
 
 abbrev pub invariant-loop-noise : goal.invariant-loop-noise

@@ -1,6 +1,6 @@
 use Rattle.std.proofs.Common.{false, arith}
 use Rattle.line_air.specs.declared.node.Ear.{Ear}
-use Rattle.line_air.proofs.Mapping.{one_more_at}
+use Rattle.line_air.proofs.MappedLists.{one_more_at}
 use Rattle.line_air.proofs.node.disturb_all.Goals as goal
 
 pub loop-ear-preserved : goal.loop-ear-preserved

@@ -1,6 +1,6 @@
 use Rattle.std.proofs.Common.{◌≡◌, false}
 use Rattle.line_air.specs.declared.node.Ear.{Ear}
-use Rattle.line_air.proofs.Mapping.{mapped}
+use Rattle.line_air.proofs.MappedLists.{mapped}
 use Rattle.line_air.proofs.node.disturb_all.Given as goal
 
 abbrev pub invariant-loop-ear : goal.invariant-loop-ear

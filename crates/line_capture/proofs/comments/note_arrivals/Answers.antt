@@ -6,15 +6,16 @@ use Rattle.line_capture.proofs.comments.note_arrivals.Goals as goal
 pub loop-arrival-preserved : goal.loop-arrival-preserved
 loop-arrival-preserved c =
     let loop = c.loop-arrival in
-    let told = c.in_ok-meant.ensures in
+    let recorded = c.in_ok-meant.ensures in
     let xs = c.args.arrivals.now in
     let within : loop.arrival-index < length xs = omega (arith, c.loop-arrival-test.true, loop.auto.arrival-index-end) in
     record {
-      options = arrival_noted loop.notes.options c.note_told.new.notes.options _ loop.meant c.in_ok-meant.meant xs loop.arrival-index _ within
-          told.options told.count loop.invariant.options;
-      count = arrival_counted _ loop.meant c.in_ok-meant.meant xs loop.arrival-index _ within told.count loop.invariant.count;
-      bound = arrival_bound loop.meant c.in_ok-meant.meant xs loop.arrival-index _ told.count loop.invariant.bound;
-      small = arrival_small (arrivals_notes 0 xs) loop.meant c.in_ok-meant.meant xs loop.arrival-index _ within told.count told.few loop.invariant.small;
+      options = arrival_noted loop.notes.options c.note_heard.new.notes.options _ loop.meant c.in_ok-meant.meant xs loop.arrival-index _ within
+          recorded.options recorded.count loop.invariant.options;
+      count = arrival_counted _ loop.meant c.in_ok-meant.meant xs loop.arrival-index _ within recorded.count loop.invariant.count;
+      bound = arrival_bound loop.meant c.in_ok-meant.meant xs loop.arrival-index _ recorded.count loop.invariant.bound;
+      small =
+          arrival_small (arrivals_notes 0 xs) loop.meant c.in_ok-meant.meant xs loop.arrival-index _ within recorded.count recorded.few loop.invariant.small;
     }
 
 pub returns-clause-options : goal.returns-clause-options

@@ -1,4 +1,4 @@
-use Rattle.line_capture.proofs.Adding.{adds_reads}
+use Rattle.line_capture.proofs.AddedBlocks.{adds_reads}
 use Rattle.line_capture.proofs.file.capture_file.Goals as goal
 
 pub returns-clause-file : goal.returns-clause-file

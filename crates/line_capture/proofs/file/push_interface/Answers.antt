@@ -1,7 +1,7 @@
 use Rattle.std.proofs.Common.{◌++◌, ◌∙◌, ℕ, List, length, ap, arith}
 use Rattle.pcapng.specs.Blocks.{INTERFACE, block_spelling, ended, interface_body}
 use Rattle.line_capture.specs.Captures.{interface_notes, interface_of, link_type}
-use Rattle.line_capture.proofs.Adding.{adds_one, interface_is}
+use Rattle.line_capture.proofs.AddedBlocks.{adds_one, interface_is}
 use Rattle.line_capture.proofs.Options.{few_more, few_octets}
 use Rattle.line_capture.proofs.file.push_interface.Goals as goal
 

@@ -1,7 +1,7 @@
 use Rattle.std.proofs.Common.{◌++◌, ◌∙◌, ℕ, List, length, ap, arith}
 use Rattle.pcapng.specs.Blocks.{SECTION, block_spelling, ended, section_body}
 use Rattle.line_capture.specs.Captures.{section, section_notes}
-use Rattle.line_capture.proofs.Adding.{adds_one, section_is}
+use Rattle.line_capture.proofs.AddedBlocks.{adds_one, section_is}
 use Rattle.line_capture.proofs.Options.{few_more, few_octets}
 use Rattle.line_capture.proofs.file.push_section.Goals as goal
 

@@ -19,7 +19,7 @@ use Rattle.line_laws.proofs.ReachHistory.{every_history}
 use Rattle.line_laws.proofs.ReachLogs.{every_log}
 use Rattle.line_laws.proofs.ReachRuns.{every_broadcast, every_walk}
 use Rattle.line_laws.proofs.ReachReported.{every_list, every_reported}
-use Rattle.line_laws.proofs.Readings.{network_ranges}
+use Rattle.line_laws.proofs.StorableGrants.{network_ranges}
 use Rattle.line_laws.proofs.SafeRun.{every_safe}
 use Rattle.line_laws.proofs.StepsTaken.{every_step}
 use Rattle.line_laws.proofs.laws.every_network_run_is_right.Goals as goal

@@ -1,7 +1,7 @@
 use Rattle.std.proofs.Common.{◌≡◌, ℕ, true, false, Option, Some, None, refl, sym, ap, ◌∙◌}
 use Rattle.std.specs.Prelude.{slice_get, is_some}
 use Rattle.line_place.specs.Hops.{is_none}
-use Rattle.line_place.proofs.Widening.{has_some_hops, no_hops_yet, gets_hops}
+use Rattle.line_place.proofs.SearchRounds.{has_some_hops, no_hops_yet, gets_hops}
 use Rattle.line_place.proofs.hops.reach.Goals as goal
 
 some_is : (o : Option ℕ) → true ≡ is_some o → is_none o ≡ false

@@ -1,7 +1,7 @@
 use Rattle.std.proofs.Common.{get_or}
 use Rattle.std.proofs.lemmas.Option.{slice_get-get_or}
 use Rattle.line_place.specs.declared.link.Link.{Link}
-use Rattle.line_place.proofs.Widening.{none_reached, links_begin, links_go_on, links_end}
+use Rattle.line_place.proofs.SearchRounds.{none_reached, links_begin, links_go_on, links_end}
 use Rattle.line_place.proofs.hops.reach_all.Goals as goal
 
 pub loop-link-init : goal.loop-link-init

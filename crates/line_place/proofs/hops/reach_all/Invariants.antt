@@ -1,5 +1,5 @@
 use Rattle.line_place.specs.Hops.{IsWider}
-use Rattle.line_place.proofs.Widening.{IsLinkBefore}
+use Rattle.line_place.proofs.SearchRounds.{IsLinkBefore}
 use Rattle.line_place.proofs.hops.reach_all.Given as goal
 
 abbrev pub invariant-loop-link : goal.invariant-loop-link

@@ -3,7 +3,7 @@ use Rattle.line_rules.specs.Worlds.{start}
 use Rattle.script_lines.specs.declared.machine.Exit.TheVariants as exits
 use Rattle.program_ends.specs.declared.status.Status.TheVariants as status
 use Rattle.program_ends.proofs.Causes.{ran_of, read_cause, write_cause}
-use Rattle.line_replay.proofs.Running.{entries_run, whole_exit}
+use Rattle.line_replay.proofs.DriverRuns.{entries_run, whole_exit}
 use Rattle.line_replay.proofs.Replayed.{replays_of}
 use Rattle.line_replay.specs.Replay.{Playing, entries, is_forged, outcome}
 use Rattle.line_replay.proofs.tool.replay.Goals as goal

@@ -1,7 +1,7 @@
 use Rattle.std.proofs.Common.{refl, false}
 use Rattle.program_ends.specs.declared.status.Status.TheVariants as status
 use Rattle.program_ends.proofs.Causes.{ran_of, read_cause, write_cause}
-use Rattle.line_replay.proofs.Running.{whole_exit}
+use Rattle.line_replay.proofs.DriverRuns.{whole_exit}
 use Rattle.line_replay.specs.Shown.{show_outcome}
 use Rattle.line_replay.specs.Tool.{none_forged}
 use Rattle.line_replay.proofs.tool.show.Goals as goal

@@ -1,5 +1,5 @@
 use Rattle.std.proofs.Common.{ap, not, ◌∙◌, sym, drop_of_length-le}
-use Rattle.line_sim.specs.Recording.{has_feed}
+use Rattle.line_sim.specs.WorldRecorder.{has_feed}
 use Rattle.line_sim.proofs.recorder.has_no_feed.Goals as goal
 
 pub returns-clause-none : goal.returns-clause-none

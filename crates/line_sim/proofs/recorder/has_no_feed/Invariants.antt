@@ -1,6 +1,6 @@
 use Rattle.std.proofs.Common.{◌≡◌, drop}
 use Rattle.script_lines.specs.Lines.{NoFeed}
-use Rattle.line_sim.specs.Recording.{has_feed}
+use Rattle.line_sim.specs.WorldRecorder.{has_feed}
 use Rattle.line_sim.proofs.recorder.has_no_feed.Given as goal
 
 -- no line feed before

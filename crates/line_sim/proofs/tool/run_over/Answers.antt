@@ -1,6 +1,6 @@
 use Rattle.std.proofs.Common.{subst}
 use Rattle.line_simulation.specs.Simulations.{state_of}
-use Rattle.line_simulation.specs.Starting.{IsFirst}
+use Rattle.line_simulation.specs.Start.{IsFirst}
 use Rattle.line_sim.proofs.Firsts.{firsts_are_one}
 use Rattle.line_sim.specs.Recorders.{Recorded}
 use Rattle.line_sim.specs.Simulated.{new_recorder}

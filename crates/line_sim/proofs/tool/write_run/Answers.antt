@@ -2,7 +2,7 @@ use Rattle.std.proofs.Common.{ap}
 use Rattle.line_simulation.specs.Simulations.{Simulated, state_of}
 use Rattle.line_sim.specs.Recorders.{Recorded}
 use Rattle.line_sim.specs.Tool.{Written}
-use Rattle.line_sim.proofs.Writing.{is_run, wrote_run}
+use Rattle.line_sim.proofs.WrittenScripts.{is_run, wrote_run}
 use Rattle.line_sim.proofs.tool.write_run.Goals as goal
 
 pub returns-in-Run : goal.returns-in-Run

@@ -1,5 +1,5 @@
 use Rattle.std.proofs.Common.{◌≡◌, take}
-use Rattle.line_simulation.specs.Attacking.{kept_count}
+use Rattle.line_simulation.specs.Attacks.{kept_count}
 use Rattle.line_simulation.proofs.attacks.kept_count.Given as goal
 
 abbrev pub invariant-loop-one : goal.invariant-loop-one

@@ -1,5 +1,5 @@
 use Rattle.std.proofs.Common.{◌≡◌, map, take}
-use Rattle.line_simulation.specs.Starting.{depth_of}
+use Rattle.line_simulation.specs.Start.{depth_of}
 use Rattle.line_simulation.proofs.start.depths_by.Given as goal
 
 abbrev pub invariant-loop-hop : goal.invariant-loop-hop

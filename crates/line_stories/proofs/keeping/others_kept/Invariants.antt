@@ -1,5 +1,5 @@
 use Rattle.std.proofs.Common.{◌≡◌, ◌++◌, drop}
-use Rattle.line_stories.specs.Keepings.{others_kept}
+use Rattle.line_stories.specs.NodeItems.{others_kept}
 use Rattle.line_stories.proofs.keeping.others_kept.Given as goal
 
 -- those so far, and of those to come

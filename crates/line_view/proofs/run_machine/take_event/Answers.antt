@@ -1,4 +1,4 @@
-use Rattle.script_runs.specs.Takings.{Taking, event_taking}
+use Rattle.script_runs.specs.TakenLines.{Taking, event_taking}
 use Rattle.line_view.proofs.Machines.{ended, went_on}
 use Rattle.line_view.proofs.Turns.{unwritten}
 use Rattle.line_view.proofs.run_machine.take_event.Goals as goal

@@ -3,8 +3,8 @@ use Rattle.script_lines.specs.declared.machine.Exit.TheVariants as exits
 use Rattle.program_ends.specs.declared.status.Status.TheVariants as status
 use Rattle.program_ends.proofs.Causes.{ran_of, fine_exit, read_cause, write_cause}
 use Rattle.line_view.proofs.Checks.{finds, text_is}
-use Rattle.line_view.proofs.Running.{names}
-use Rattle.line_view.specs.Checking.{checking, is_bad, outcome}
+use Rattle.line_view.proofs.CheckedRuns.{names}
+use Rattle.line_view.specs.CheckRuns.{checking, is_bad, outcome}
 use Rattle.line_view.proofs.tool.check.Goals as goal
 
 pub returns-in_default-clause-checks : goal.returns-in_default-clause-checks

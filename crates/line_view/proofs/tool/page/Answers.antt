@@ -1,6 +1,6 @@
 use Rattle.line_view.proofs.Paged.{page_follows}
 use Rattle.line_view.proofs.PageNests.{is_page}
-use Rattle.line_view.specs.Paging.{nothing_paged}
+use Rattle.line_view.specs.PageRuns.{nothing_paged}
 use Rattle.line_view.proofs.tool.page.Goals as goal
 
 pub returns-clause-pages : goal.returns-clause-pages

@@ -1,8 +1,8 @@
 use Rattle.std.proofs.Common.{◌++◌, ◌-◌, length, sym, ◌∙◌, arith}
 use Rattle.std.proofs.lemmas.List.{take-append-drop}
 use Rattle.aes_modes.specs.Ccm.{ccm_text}
-use Rattle.mac_frames.specs.Sealing.{payload_in}
-use Rattle.mac_frames.proofs.Opening.{opened, tag_fits}
+use Rattle.mac_frames.specs.SealedFrames.{payload_in}
+use Rattle.mac_frames.proofs.SealedBodies.{opened, tag_fits}
 use Rattle.mac_frames.proofs.sealing.decrypt_payload.Goals as goal
 
 pub returns-clause-payload : goal.returns-clause-payload

@@ -2,8 +2,8 @@ use Rattle.std.proofs.Common.{◌≡◌, ◌++◌, ◌-◌, length, sym, ◌∙�
 use Rattle.std.proofs.lemmas.List.{take-append-drop}
 use Rattle.std.proofs.lemmas.Result.{on_ok_weaker}
 use Rattle.aes_modes.specs.Ccm.{ccm_tag, ccm_text}
-use Rattle.mac_frames.specs.Sealing.{HasTag, nonce_of, payload_in}
-use Rattle.mac_frames.proofs.Opening.{opens_exactly, opens_only, opens_so, tag_fits}
+use Rattle.mac_frames.specs.SealedFrames.{HasTag, nonce_of, payload_in}
+use Rattle.mac_frames.proofs.SealedBodies.{opens_exactly, opens_only, opens_so, tag_fits}
 use Rattle.mac_frames.proofs.sealing.open_frame.Goals as goal
 use Rattle.mac_frames.proofs.sealing.open_frame.Goals.{After-open_text}
 

@@ -3,9 +3,9 @@ use Rattle.std.proofs.lemmas.List.{length-append, length-take, length-drop, appe
 use Rattle.aes_modes.specs.Ccm.{ccm_tag, ccm_text}
 use Rattle.aes_modes.proofs.Texts.{length-ccm_text, length-ccm_tag}
 use Rattle.mac_frames.specs.Grammar.{header, header_then}
-use Rattle.mac_frames.specs.Sealing.{nonce_of}
+use Rattle.mac_frames.specs.SealedFrames.{nonce_of}
 use Rattle.mac_frames.proofs.Headers.{header_then-append, length-header}
-use Rattle.mac_frames.proofs.Opening.{fits_tag}
+use Rattle.mac_frames.proofs.SealedBodies.{fits_tag}
 use Rattle.mac_frames.proofs.sealing.seal_written.Goals as goal
 use Rattle.mac_frames.proofs.sealing.seal_written.Goals.{After-append}
 

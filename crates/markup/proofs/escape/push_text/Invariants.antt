@@ -1,5 +1,5 @@
 use Rattle.std.proofs.Common.{◌≡◌, ◌++◌, drop}
-use Rattle.markup.specs.Writing.{escaped}
+use Rattle.markup.specs.ElementTexts.{escaped}
 use Rattle.markup.proofs.escape.push_text.Given as goal
 
 -- what was written, and what the rest of the text will be

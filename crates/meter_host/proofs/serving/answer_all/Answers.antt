@@ -1,4 +1,4 @@
-use Rattle.meter_host.specs.Serving.{Runs}
+use Rattle.meter_host.specs.ProgramRuns.{Runs}
 use Rattle.meter_host.proofs.Serves.{begun, one_more_call, ends_calling}
 use Rattle.meter_host.proofs.serving.answer_all.Goals as goal
 

@@ -1,5 +1,5 @@
 use Rattle.std.proofs.Common.{◌≡◌, [], Some}
-use Rattle.meter_host.specs.Serving.{Runs}
+use Rattle.meter_host.specs.ProgramRuns.{Runs}
 use Rattle.meter_host.proofs.Serves.{SoFar}
 use Rattle.meter_host.proofs.serving.answer_all.Given as goal
 

@@ -1,6 +1,6 @@
 use Rattle.std.proofs.Common.{refl, ◌∙◌}
 use Rattle.host_calls.specs.Answers.{status_text}
-use Rattle.meter_host.specs.Serving.{Loads}
+use Rattle.meter_host.specs.ProgramRuns.{Loads}
 use Rattle.meter_host.proofs.Serves.{begun, taken_in, one_more, ends_writing}
 use Rattle.meter_host.proofs.serving.load_all.Goals as goal
 

@@ -1,5 +1,5 @@
 use Rattle.std.proofs.Common.{◌≡◌}
-use Rattle.meter_host.specs.Serving.{Loads}
+use Rattle.meter_host.specs.ProgramRuns.{Loads}
 use Rattle.meter_host.proofs.Serves.{SoFar}
 use Rattle.meter_host.proofs.serving.load_all.Given as goal
 

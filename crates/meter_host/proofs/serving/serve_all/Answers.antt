@@ -1,4 +1,4 @@
-use Rattle.meter_host.specs.Serving.{Loads, no_records}
+use Rattle.meter_host.specs.ProgramRuns.{Loads, no_records}
 use Rattle.meter_host.proofs.Serves.{ends_at_once, ends_unopened, ends_unsaid, has_opened, serves_after}
 use Rattle.meter_host.proofs.serving.serve_all.Goals as goal
 

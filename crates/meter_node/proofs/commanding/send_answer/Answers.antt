@@ -1,6 +1,6 @@
 use Rattle.std.proofs.Common.{◌∙◌}
 use Rattle.joining_messages.specs.declared.message.JoinBody.TheVariants as body
-use Rattle.node_rules.specs.Joining.{command_of, message}
+use Rattle.node_rules.specs.JoiningPackets.{command_of, message}
 use Rattle.meter_node.proofs.CommandRules.{sent_zero}
 use Rattle.meter_node.proofs.commanding.send_answer.Goals as goal
 

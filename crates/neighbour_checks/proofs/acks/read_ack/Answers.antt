@@ -1,4 +1,4 @@
-use Rattle.neighbour_checks.proofs.Acknowledging.{one_value, only_read, value_read}
+use Rattle.neighbour_checks.proofs.AckSpellings.{one_value, only_read, value_read}
 use Rattle.neighbour_checks.proofs.acks.read_ack.Goals as goal
 
 pub returns-clause-value : goal.returns-clause-value

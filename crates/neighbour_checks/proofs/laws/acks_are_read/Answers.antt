@@ -1,4 +1,4 @@
-use Rattle.neighbour_checks.proofs.Acknowledging as lemmas
+use Rattle.neighbour_checks.proofs.AckSpellings as lemmas
 use Rattle.neighbour_checks.proofs.laws.acks_are_read.Goals as goal
 
 pub returns : goal.returns

@@ -1,5 +1,5 @@
 use Rattle.neighbour_checks.proofs.Histories.{at_most_64}
-use Rattle.neighbour_checks.proofs.Holding.{held_once}
+use Rattle.neighbour_checks.proofs.DistinctNeighbours.{held_once}
 use Rattle.neighbour_checks.proofs.laws.at_most_64.Goals as goal
 
 pub returns-clause-neighbours : goal.returns-clause-neighbours

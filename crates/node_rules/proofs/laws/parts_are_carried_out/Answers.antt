@@ -1,4 +1,4 @@
-use Rattle.node_rules.proofs.Composing.{carries_within}
+use Rattle.node_rules.proofs.ComposedPlans.{carries_within}
 use Rattle.node_rules.proofs.laws.parts_are_carried_out.Goals as goal
 
 pub returns : goal.returns

@@ -1,4 +1,4 @@
-use Rattle.node_rules.proofs.Composing.{carries_behind}
+use Rattle.node_rules.proofs.ComposedPlans.{carries_behind}
 use Rattle.node_rules.proofs.laws.plans_follow_puts.Goals as goal
 
 pub returns : goal.returns

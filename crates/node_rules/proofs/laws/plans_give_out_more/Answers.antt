@@ -1,4 +1,4 @@
-use Rattle.node_rules.proofs.Composing.{carries_adding}
+use Rattle.node_rules.proofs.ComposedPlans.{carries_adding}
 use Rattle.node_rules.proofs.laws.plans_give_out_more.Goals as goal
 
 pub returns : goal.returns

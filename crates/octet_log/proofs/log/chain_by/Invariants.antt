@@ -1,6 +1,6 @@
 use Rattle.std.proofs.Common.{◌≡◌, ◌<◌, drop}
 use Rattle.std.specs.List.{fold}
-use Rattle.octet_log.specs.Keeping.{next_chain}
+use Rattle.octet_log.specs.LogChains.{next_chain}
 use Rattle.octet_log.proofs.log.chain_by.Given as goal
 
 -- the chain so far, and the octets that are left, give the chain of all

@@ -1,4 +1,4 @@
-use Rattle.outbox_laws.proofs.Deferring.{deferred, cut_while_storing}
+use Rattle.outbox_laws.proofs.DeferredPuts.{deferred, cut_while_storing}
 use Rattle.outbox_laws.proofs.laws.deferring_puts.Goals as goal
 
 pub returns-clause-calls : goal.returns-clause-calls

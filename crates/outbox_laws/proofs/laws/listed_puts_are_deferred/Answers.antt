@@ -1,4 +1,4 @@
-use Rattle.outbox_laws.proofs.Listing.{listed_deferred}
+use Rattle.outbox_laws.proofs.ListedPuts.{listed_deferred}
 use Rattle.outbox_laws.proofs.laws.listed_puts_are_deferred.Goals as goal
 
 pub returns : goal.returns

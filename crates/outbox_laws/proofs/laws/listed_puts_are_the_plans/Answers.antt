@@ -1,4 +1,4 @@
-use Rattle.outbox_laws.proofs.Listing.{listed_puts}
+use Rattle.outbox_laws.proofs.ListedPuts.{listed_puts}
 use Rattle.outbox_laws.proofs.laws.listed_puts_are_the_plans.Goals as goal
 
 pub returns : goal.returns

@@ -1,5 +1,5 @@
 -- The lemmas are the laws.
-use Rattle.pan_discovery.proofs.Meaning as lemmas
+use Rattle.pan_discovery.proofs.AgentOrder as lemmas
 use Rattle.pan_discovery.proofs.laws.agents_are_the_cheapest.Goals as goal
 
 pub returns-clause-order : goal.returns-clause-order

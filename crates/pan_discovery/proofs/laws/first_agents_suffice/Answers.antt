@@ -1,5 +1,5 @@
 -- The lemma is the law.
-use Rattle.pan_discovery.proofs.Hearing as lemmas
+use Rattle.pan_discovery.proofs.AgentPlaces as lemmas
 use Rattle.pan_discovery.proofs.laws.first_agents_suffice.Goals as goal
 
 pub returns : goal.returns

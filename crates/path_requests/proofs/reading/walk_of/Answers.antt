@@ -1,5 +1,5 @@
 use Rattle.std.proofs.Common.{sym}
-use Rattle.path_requests.proofs.Walking.{extended, not_extended}
+use Rattle.path_requests.proofs.WalkOctets.{extended, not_extended}
 use Rattle.path_requests.proofs.reading.walk_of.Goals as goal
 
 pub returns-then-not-extend : goal.returns-then-not-extend

@@ -1,6 +1,6 @@
 use Rattle.std.proofs.Common.{◌++◌, ap, ◌∙◌, arith}
 use Rattle.byteorder.specs.Endian.{big_bytes}
-use Rattle.path_requests.proofs.Walking.{written_more, written_room}
+use Rattle.path_requests.proofs.WalkOctets.{written_more, written_room}
 use Rattle.path_requests.proofs.writing.write_addresses.Goals as goal
 
 pub push_be_u16-requires : goal.push_be_u16-requires

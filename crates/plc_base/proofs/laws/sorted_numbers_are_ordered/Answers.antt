@@ -1,4 +1,4 @@
-use Rattle.plc_base.proofs.Sorting.{sorted_numbers}
+use Rattle.plc_base.proofs.SortedNumbers.{sorted_numbers}
 use Rattle.plc_base.proofs.laws.sorted_numbers_are_ordered.Goals as goal
 
 pub returns : goal.returns

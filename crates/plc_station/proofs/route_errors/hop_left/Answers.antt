@@ -2,7 +2,7 @@ use Rattle.std.proofs.Common.{◌≡◌, Bool, true, false, cond, Some, None, ap
 use Rattle.std.specs.Prelude.{◌==◌}
 use Rattle.std.proofs.lemmas.Bool.Decides.{nat_tests}
 use Rattle.routing_set.specs.Laws.{hop_after}
-use Rattle.plc_station.proofs.Losing.{none_left, some_left}
+use Rattle.plc_station.proofs.ErrorCases.{none_left, some_left}
 use Rattle.plc_station.proofs.route_errors.hop_left.Goals as goal
 
 pub returns-in_default : goal.returns-in_default

@@ -1,7 +1,7 @@
 use Rattle.std.proofs.Common.{◌++◌, ap, ◌∙◌}
 use Rattle.fragment_buffers.specs.Loads.{load_of, all_go, units_of}
 use Rattle.station_queues.specs.Frames.{frames_of}
-use Rattle.plc_station.specs.Sealing.{only_frames}
+use Rattle.plc_station.specs.SentFrames.{only_frames}
 use Rattle.plc_station.proofs.Sealed.{sealed_alone}
 use Rattle.plc_station.proofs.sealing.seal_own.Goals as goal
 

@@ -6,9 +6,9 @@ use Rattle.mesh_header.specs.declared.unit.Unit.TheVariants.{Local}
 use Rattle.node_rules.specs.Ciphers.{network}
 use Rattle.node_rules.specs.Frames.{spelled}
 use Rattle.node_rules.specs.Drafts.{sealed_by}
-use Rattle.fragment_buffers.specs.Waiting.{leaving}
+use Rattle.fragment_buffers.specs.WaitingBodies.{leaving}
 use Rattle.station_queues.specs.Frames.{frames_of}
-use Rattle.plc_station.specs.Sealing.{only_frames}
+use Rattle.plc_station.specs.SentFrames.{only_frames}
 use Rattle.station_queues.proofs.Letters.{length-frames}
 use Rattle.plc_station.proofs.Sealed.{sealed_then}
 use Rattle.plc_station.proofs.sealing.seal_waiting_then.Goals as goal

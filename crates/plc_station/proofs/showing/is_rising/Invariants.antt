@@ -1,5 +1,5 @@
 use Rattle.std.proofs.Common.{◌≡◌, None, drop}
-use Rattle.plc_station.specs.Rising.{is_rising_after}
+use Rattle.plc_station.specs.RisingLists.{is_rising_after}
 use Rattle.plc_station.proofs.showing.is_rising.Given as goal
 
 -- whether the rest rises from here decides it

@@ -2,9 +2,9 @@ use Rattle.std.proofs.Common.{◌≡◌, ℕ, suc, ◌+◌, List, [], ◌∷◌,
 use Rattle.std.specs.Prelude.{slice_get}
 use Rattle.std.proofs.lemmas.List.{take_all}
 use Rattle.std.proofs.lemmas.Option.{slice_get-get_or}
-use Rattle.frame_counters.specs.PeerMarks.{Peer}
+use Rattle.frame_counters.specs.PeerMarks.{PeerMark}
 use Rattle.frame_counters.specs.PeerMarks.{peers}
-use Rattle.node_rules.specs.Showing.{ordered_by, shown_peer}
+use Rattle.node_rules.specs.ShownNodes.{ordered_by, shown_peer}
 use Rattle.plc_station.proofs.Shows.{is_there, shown_suc, as_many}
 use Rattle.plc_station.proofs.showing.show_sorted_peers.Goals as goal
 
@@ -27,12 +27,12 @@ loop-from-preserved c =
     (ap (λ (xs : List ℕ). slice_get xs c.loop-from.from-index) (sym c.as_slice-from-items.ensures.value)
     ∙ slice_get-get_or c.as_slice-from-items.result.now c.loop-from.from-index c.from-item.result (omega (arith, c.loop-from-test.true))
     ∙ ap Some (sym c.from-item.is)) c.peer_shown.ensures)
-    ∙ ap (λ n. map shown_peer (take n (ordered_by (λ (e : Peer). e.address) c.args.marks.now))) next
+    ∙ ap (λ n. map shown_peer (take n (ordered_by (λ (e : PeerMark). e.address) c.args.marks.now))) next
 
 pub returns : goal.returns
 returns c =
     c.loop-from.invariant
-    ∙ ap (map shown_peer) (take_all c.loop-from.from-index (ordered_by (λ (e : Peer). e.address) c.args.marks.now)
+    ∙ ap (map shown_peer) (take_all c.loop-from.from-index (ordered_by (λ (e : PeerMark). e.address) c.args.marks.now)
     (omega (
       arith,
       c.loop-from-test.false,

@@ -4,7 +4,7 @@ use Rattle.std.proofs.lemmas.List.{take_all}
 use Rattle.std.proofs.lemmas.Option.{slice_get-get_or}
 use Rattle.routing_set.specs.declared.entry.RoutingEntry.{RoutingEntry}
 use Rattle.routing_set.specs.RoutingSet.{ranks}
-use Rattle.node_rules.specs.Showing.{ordered_by, shown_route}
+use Rattle.node_rules.specs.ShownNodes.{ordered_by, shown_route}
 use Rattle.plc_station.proofs.Shows.{is_there, shown_suc, as_many}
 use Rattle.plc_station.proofs.showing.show_sorted_routes.Goals as goal
 

@@ -1,6 +1,6 @@
 use Rattle.std.proofs.Common.{◌≡◌, map, take}
 use Rattle.routing_set.specs.declared.entry.RoutingEntry.{RoutingEntry}
-use Rattle.node_rules.specs.Showing.{ordered_by, shown_route}
+use Rattle.node_rules.specs.ShownNodes.{ordered_by, shown_route}
 use Rattle.plc_station.proofs.showing.show_sorted_routes.Given as goal
 
 abbrev pub invariant-loop-dest : goal.invariant-loop-dest

@@ -1,4 +1,4 @@
-use Rattle.program_ends.proofs.Writing.{wrote_all, wrote_part}
+use Rattle.program_ends.proofs.WrittenTexts.{wrote_all, wrote_part}
 use Rattle.program_ends.proofs.text.write_whole.Goals as goal
 
 pub returns-in-Ok : goal.returns-in-Ok

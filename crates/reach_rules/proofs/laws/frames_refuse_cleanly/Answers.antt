@@ -1,4 +1,4 @@
-use Rattle.reach_rules.proofs.CheckedHearing.{frames_cleanly}
+use Rattle.reach_rules.proofs.CheckedReceptions.{frames_cleanly}
 use Rattle.reach_rules.proofs.laws.frames_refuse_cleanly.Goals as goal
 
 pub returns : goal.returns

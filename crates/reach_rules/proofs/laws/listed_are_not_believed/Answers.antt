@@ -1,4 +1,4 @@
-use Rattle.reach_rules.proofs.CheckedHearing.{listed_unbelieved}
+use Rattle.reach_rules.proofs.CheckedReceptions.{listed_unbelieved}
 use Rattle.reach_rules.proofs.laws.listed_are_not_believed.Goals as goal
 
 pub returns : goal.returns

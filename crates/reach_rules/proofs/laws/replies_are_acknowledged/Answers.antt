@@ -1,4 +1,4 @@
-use Rattle.reach_rules.proofs.CheckedHearing.{replies_acknowledged}
+use Rattle.reach_rules.proofs.CheckedReceptions.{replies_acknowledged}
 use Rattle.reach_rules.proofs.laws.replies_are_acknowledged.Goals as goal
 
 pub returns : goal.returns

@@ -1,5 +1,5 @@
 use Rattle.routing_set.specs.RoutingSet.{offered_entry}
-use Rattle.routing_set.proofs.Rising.{entered_found}
+use Rattle.routing_set.proofs.RisingRanks.{entered_found}
 use Rattle.routing_set.proofs.laws.an_offer_is_found.Goals as goal
 
 pub returns : goal.returns

@@ -1,5 +1,5 @@
 use Rattle.std.proofs.Common.{refl}
-use Rattle.routing_set.proofs.Rising.{ended_routes, ended_ranks, ended_held}
+use Rattle.routing_set.proofs.RisingRanks.{ended_routes, ended_ranks, ended_held}
 use Rattle.routing_set.proofs.laws.endings_keep_ranks.Goals as goal
 
 pub returns : goal.returns

@@ -1,4 +1,4 @@
-use Rattle.routing_set.proofs.Leading.{number_leads}
+use Rattle.routing_set.proofs.OfferPuts.{number_leads}
 use Rattle.routing_set.proofs.laws.numbers_lead.Goals as goal
 
 pub returns : goal.returns

@@ -1,5 +1,5 @@
 use Rattle.routing_set.specs.RoutingSet.{offered_entry}
-use Rattle.routing_set.proofs.Rising.{entered_routes}
+use Rattle.routing_set.proofs.RisingRanks.{entered_routes}
 use Rattle.routing_set.proofs.laws.offers_begin_their_route.Goals as goal
 
 pub returns : goal.returns

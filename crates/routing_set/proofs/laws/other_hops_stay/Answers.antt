@@ -1,4 +1,4 @@
-use Rattle.routing_set.proofs.Losing.{hop_left}
+use Rattle.routing_set.proofs.LostRoutes.{hop_left}
 use Rattle.routing_set.proofs.laws.other_hops_stay.Goals as goal
 
 pub returns : goal.returns

@@ -1,4 +1,4 @@
-use Rattle.routing_set.proofs.Forgetting.{first_or_fresh}
+use Rattle.routing_set.proofs.ForgottenEntries.{first_or_fresh}
 use Rattle.routing_set.proofs.laws.the_first_is_forgotten.Goals as goal
 
 pub returns : goal.returns

@@ -1,6 +1,6 @@
 use Rattle.run_charts.proofs.doing.restart_text.Goals as goal
 
 pub returns : goal.returns
-unfolding Rattle.run_charts.specs.Doings.restart_text
+unfolding Rattle.run_charts.specs.EventDeeds.restart_text
 returns c =
     rw (c.node.ensures, c.words.ensures) at c.sentence.ensures

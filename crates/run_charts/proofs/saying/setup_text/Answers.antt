@@ -1,7 +1,7 @@
 use Rattle.run_charts.proofs.saying.setup_text.Goals as goal
 
 pub returns : goal.returns
-unfolding Rattle.run_charts.specs.Sayings.setup_words
+unfolding Rattle.run_charts.specs.RowSentences.setup_words
 returns c =
     rw (
       c.words.ensures,

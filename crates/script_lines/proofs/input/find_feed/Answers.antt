@@ -1,4 +1,4 @@
-use Rattle.script_lines.proofs.Taking.{feed_found, no_feed_found}
+use Rattle.script_lines.proofs.TakenOctets.{feed_found, no_feed_found}
 use Rattle.script_lines.proofs.input.find_feed.Goals as goal
 
 pub returns-in-Some : goal.returns-in-Some

@@ -1,4 +1,4 @@
-use Rattle.script_runs.proofs.Skipping.{is_quiet}
+use Rattle.script_runs.proofs.QuietLines.{is_quiet}
 use Rattle.script_runs.proofs.laws.only_quiet_lines_are_skipped.Goals as goal
 
 pub returns : goal.returns

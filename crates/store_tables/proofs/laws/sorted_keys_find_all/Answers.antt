@@ -1,4 +1,4 @@
-use Rattle.store_tables.proofs.Finding.{sorted_find}
+use Rattle.store_tables.proofs.FoundEntries.{sorted_find}
 use Rattle.store_tables.proofs.laws.sorted_keys_find_all.Goals as goal
 
 pub returns : goal.returns

@@ -5,4 +5,4 @@ use Rattle.story_accounts.proofs.index.push_events.Given as goal
 -- what comes of the events to come
 abbrev pub invariant-loop-i : goal.invariant-loop-i
 invariant-loop-i l =
-    events_from l.i (drop l.i l.all) l.owners l.lots l.events.items ≡ events_from 0 l.all l.owners l.lots l.fn.events.items
+    events_from l.i (drop l.i l.all) l.owners l.courses l.events.items ≡ events_from 0 l.all l.owners l.courses l.fn.events.items

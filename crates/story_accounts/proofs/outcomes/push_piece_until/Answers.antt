@@ -1,7 +1,7 @@
 use Rattle.std.proofs.Common.{[], ◌∷◌, string_bytes}
 use Rattle.sentence_parts.specs.Parts.{parts_text}
 use Rattle.story_accounts.specs.Outcomes.{piece_until}
-use Rattle.story_accounts.proofs.Saying.{appends}
+use Rattle.story_accounts.proofs.MadeTexts.{appends}
 use Rattle.story_accounts.proofs.outcomes.push_piece_until.Goals as goal
 
 pub returns : goal.returns

@@ -1,6 +1,6 @@
 use Rattle.std.proofs.Common.{codes, string_bytes}
 use Rattle.story_accounts.specs.Waits.{coordinator_and, other_meters}
-use Rattle.story_accounts.proofs.Saying.{follows}
+use Rattle.story_accounts.proofs.MadeTexts.{follows}
 use Rattle.story_accounts.proofs.waiting.push_coordinator_and.Goals as goal
 
 pub returns : goal.returns

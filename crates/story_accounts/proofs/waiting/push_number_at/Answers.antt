@@ -2,7 +2,7 @@ use Rattle.std.proofs.Common.{[], ◌∷◌, ◌∙◌, ap, string_bytes}
 use Rattle.sentence_parts.specs.declared.part.Part.TheVariants.{Words}
 use Rattle.sentence_parts.specs.Parts.{parts_text}
 use Rattle.story_accounts.specs.Waits.{number_at}
-use Rattle.story_accounts.proofs.Saying.{appends}
+use Rattle.story_accounts.proofs.MadeTexts.{appends}
 use Rattle.story_accounts.proofs.waiting.push_number_at.Goals as goal
 
 pub returns : goal.returns

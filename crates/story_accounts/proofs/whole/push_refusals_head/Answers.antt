@@ -1,7 +1,7 @@
 use Rattle.std.proofs.Common.{[], ◌∷◌, string_bytes}
 use Rattle.sentence_parts.specs.Parts.{parts_text}
 use Rattle.story_accounts.specs.Sections.{refusals_head}
-use Rattle.story_accounts.proofs.Saying.{appends}
+use Rattle.story_accounts.proofs.MadeTexts.{appends}
 use Rattle.story_accounts.proofs.whole.push_refusals_head.Goals as goal
 
 pub returns : goal.returns

@@ -13,7 +13,7 @@ mod on_a_board {
     use crate::bare::Heap;
     use core::mem::MaybeUninit;
     use firmware::{Driver, Flash, Modem, Trouble};
-    use plc_base::{Eui, Key, LinkCost, Rand, Short};
+    use plc_base::{Eui, Key, LinkCost, RandomOctets, Short};
 
     /// What a meter takes at its opening, and no more: a pool of 160 blocks and its table, 64 ranks with their routes, 64 marks, the places of its pieces, the
     /// buffer of a body that leaves; and the 24 frames of its `Out`.
@@ -59,7 +59,7 @@ mod on_a_board {
             0 => driver.tick(event.now),
             1 => driver.hear(&mut Board, octets, LinkCost::new(event.number as u8).ok_or(Trouble::Refused)?, event.now)?,
             2 => driver.send(&mut Board, Short::new(event.number).ok_or(Trouble::Refused)?, octets, event.now)?,
-            3 => driver.give_random(Rand(octets.try_into().map_err(|_| Trouble::Refused)?))?,
+            3 => driver.give_random(RandomOctets(octets.try_into().map_err(|_| Trouble::Refused)?))?,
             4 => driver.join(&mut Board, Short::new(event.number).ok_or(Trouble::Refused)?, event.now)?,
             _ => reopen(driver)?,
         }

@@ -30,7 +30,7 @@ use Rattle.core.proofs.slots.Bodies.{after}
 use Rattle.core.proofs.slots.Lent.{none_at_null, value_lent}
 use Rattle.core.proofs.slots.Places.{sz}
 use Rattle.core.specs.Mem.Slots.Ownership.{slots_lent}
-use Rattle.block_pool.proofs.Opening.{CellsOf, PlaceOf, place_had, cells_shown}
+use Rattle.block_pool.proofs.OpenedCells.{CellsOf, PlaceOf, place_had, cells_shown}
 use Rattle.block_pool.specs.Cells.{place_of, index_of, LiesIn}
 use Rattle.block_pool.specs.declared.cells.Cells.{Cells}
 use Rattle.block_pool.specs.declared.cells.Place.{Place}

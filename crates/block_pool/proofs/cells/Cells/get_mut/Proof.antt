@@ -35,7 +35,7 @@ use Rattle.core.proofs.mem.Param.{El, R, args, el_x}
 use Rattle.core.proofs.slice.Lists.{hd, any-default}
 use Rattle.core.proofs.slots.Bodies.{after}
 use Rattle.core.proofs.slots.Places.{sz, besides, item_out, item_in}
-use Rattle.block_pool.proofs.Opening.{CellsOf, PlaceOf, words, row_at, place_had, cells_made, cells_open}
+use Rattle.block_pool.proofs.OpenedCells.{CellsOf, PlaceOf, words, row_at, place_had, cells_made, cells_open}
 use Rattle.block_pool.specs.Cells.{place_of, index_of, LiesIn, with_item}
 use Rattle.block_pool.specs.declared.cells.Cells.{Cells}
 use Rattle.block_pool.specs.contracts.cells.Cells.get_mut as F

@@ -32,7 +32,7 @@ use Rattle.core.proofs.slots.Bodies.{after}
 use Rattle.core.proofs.slots.Lent.{none_at_null, pointer_in, pointer_out}
 use Rattle.core.proofs.slots.Places.{sz}
 use Rattle.core.specs.Mem.Slots.Ownership.{slots_lent}
-use Rattle.block_pool.proofs.Opening.{CellsOf, place_made, cells_shown}
+use Rattle.block_pool.proofs.OpenedCells.{CellsOf, place_made, cells_shown}
 use Rattle.block_pool.specs.Cells.{place_of}
 use Rattle.block_pool.specs.declared.cells.Cells.{Cells}
 use Rattle.block_pool.specs.contracts.cells.Cells.place as F

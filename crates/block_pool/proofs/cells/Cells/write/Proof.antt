@@ -28,7 +28,7 @@ use Rattle.core.proofs.mem.Param.{El, R, args, elτ, lawful, one}
 use Rattle.core.proofs.ptr.Rows.{times_below, one_below}
 use Rattle.core.proofs.slots.Bodies.{after}
 use Rattle.core.proofs.slots.Places.{sz, besides, room_out, value_in}
-use Rattle.block_pool.proofs.Opening.{CellsOf, row_at, cells_open, cells_close}
+use Rattle.block_pool.proofs.OpenedCells.{CellsOf, row_at, cells_open, cells_close}
 use Rattle.block_pool.specs.declared.cells.Cells.{Cells}
 use Rattle.block_pool.specs.contracts.cells.Cells.write as F
 use Rattle.block_pool.specs.contracts.cells.Cells.write.Key.{name as key}

@@ -1,6 +1,6 @@
 use Rattle.std.proofs.Common.{subst}
 use Rattle.block_pool.specs.Pool.{PoolState, HasBlocks}
-use Rattle.block_pool.proofs.Counting.{has_blocks}
+use Rattle.block_pool.proofs.BlockCounts.{has_blocks}
 use Rattle.block_pool.proofs.pool.Pool.blocks.Goals as goal
 
 pub returns : goal.returns

@@ -1,8 +1,8 @@
-use Rattle.plc_station.proofs.Carrying.{if_some, at_some}
+use Rattle.plc_station.proofs.CarriedPlans.{if_some, at_some}
 use Rattle.node_rules.specs.Memory.{CoordinatorSession}
 use Rattle.coordinator.specs.CoordinatorStates.{node_of}
-use Rattle.node_rules.specs.Hearing.{dropped}
-use Rattle.coordinator.proofs.Storing.{refusal, by_some}
+use Rattle.node_rules.specs.HearingRules.{dropped}
+use Rattle.coordinator.proofs.StoredChanges.{refusal, by_some}
 use Rattle.std.proofs.Common.{Ok, Err}
 use Rattle.coordinator.proofs.PacketRules.{accept_lacks, ended_runs, ended_room, accepted}
 use Rattle.coordinator.proofs.coordinator.Coordinator.accept_meter.Goals as goal

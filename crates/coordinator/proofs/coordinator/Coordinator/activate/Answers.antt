@@ -1,11 +1,11 @@
 use Rattle.node_rules.specs.declared.refusal.CoordinatorRefusal.TheVariants.{NotAllowed, NotIssued}
 use Rattle.node_rules.specs.Coordinators.{orders}
-use Rattle.plc_station.proofs.Carrying.{if_some, at_some}
+use Rattle.plc_station.proofs.CarriedPlans.{if_some, at_some}
 use Rattle.coordinator.specs.CoordinatorStates.{node_of}
-use Rattle.coordinator.proofs.Storing.{refusal, carried_by}
-use Rattle.coordinator.proofs.Activating.{not_allowed, not_known, not_issued, ordered}
+use Rattle.coordinator.proofs.StoredChanges.{refusal, carried_by}
+use Rattle.coordinator.proofs.ActivationOrders.{not_allowed, not_known, not_issued, ordered}
 use Rattle.joining_messages.specs.declared.message.JoinBody.TheVariants as body
-use Rattle.node_rules.specs.Joining.{message}
+use Rattle.node_rules.specs.JoiningPackets.{message}
 use Rattle.coordinator.proofs.coordinator.Coordinator.activate.Goals as goal
 
 pub returns-in_default-clause-carries : goal.returns-in_default-clause-carries

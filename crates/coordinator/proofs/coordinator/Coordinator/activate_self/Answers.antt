@@ -1,10 +1,10 @@
 use Rattle.std.proofs.Common.{refl}
 use Rattle.node_rules.specs.declared.refusal.CoordinatorRefusal.TheVariants.{NotHeld}
 use Rattle.node_rules.specs.Coordinators.{orders}
-use Rattle.node_rules.specs.Carrying.{nothing}
-use Rattle.plc_station.proofs.Carrying.{if_some, at_some}
+use Rattle.node_rules.specs.CarriedPlans.{nothing}
+use Rattle.plc_station.proofs.CarriedPlans.{if_some, at_some}
 use Rattle.coordinator.specs.CoordinatorStates.{node_of}
-use Rattle.coordinator.proofs.Storing.{refusal, carried_by}
+use Rattle.coordinator.proofs.StoredChanges.{refusal, carried_by}
 use Rattle.coordinator.proofs.RingOrders.{key_missing, activated}
 use Rattle.coordinator.proofs.coordinator.Coordinator.activate_self.Goals as goal
 

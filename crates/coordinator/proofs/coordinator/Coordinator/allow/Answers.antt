@@ -2,11 +2,11 @@ use Rattle.std.proofs.Common.{refl, ap, ◌∙◌}
 use Rattle.group_keys.specs.KeyBook as book
 use Rattle.node_rules.specs.declared.refusal.CoordinatorRefusal.TheVariants.{MetersFull}
 use Rattle.node_rules.specs.Coordinators.{orders}
-use Rattle.node_rules.specs.Carrying.{nothing}
-use Rattle.plc_station.proofs.Carrying.{if_some, at_some}
+use Rattle.node_rules.specs.CarriedPlans.{nothing}
+use Rattle.plc_station.proofs.CarriedPlans.{if_some, at_some}
 use Rattle.coordinator.specs.CoordinatorStates.{node_of}
-use Rattle.coordinator.proofs.Storing.{refusal, not_none}
-use Rattle.coordinator.proofs.Entering.{meters_full, room_kept, allow_done, allow_failed}
+use Rattle.coordinator.proofs.StoredChanges.{refusal, not_none}
+use Rattle.coordinator.proofs.BookEntries.{meters_full, room_kept, allow_done, allow_failed}
 use Rattle.coordinator.proofs.coordinator.Coordinator.allow.Goals as goal
 
 pub returns-then-not-has_room-clause-carries : goal.returns-then-not-has_room-clause-carries

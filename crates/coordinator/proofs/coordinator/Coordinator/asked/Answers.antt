@@ -1,6 +1,6 @@
-use Rattle.plc_station.proofs.Carrying.{if_some, at_some}
+use Rattle.plc_station.proofs.CarriedPlans.{if_some, at_some}
 use Rattle.coordinator.specs.CoordinatorStates.{node_of, identity_of}
-use Rattle.coordinator.proofs.Storing.{carried_by}
+use Rattle.coordinator.proofs.StoredChanges.{carried_by}
 use Rattle.coordinator.proofs.RequestRules.{let_in, kept_out}
 use Rattle.coordinator.proofs.coordinator.Coordinator.asked.Goals as goal
 

@@ -1,4 +1,4 @@
-use Rattle.coordinator.proofs.Storing.{on_parts, by_some}
+use Rattle.coordinator.proofs.StoredChanges.{on_parts, by_some}
 use Rattle.coordinator.proofs.Parts.{part_runs, part_says}
 use Rattle.coordinator.proofs.Challenges.{began, beside_holds, has_value}
 use Rattle.coordinator.proofs.coordinator.Coordinator.begin_session.Goals as goal

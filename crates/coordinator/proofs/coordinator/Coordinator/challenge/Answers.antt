@@ -1,8 +1,8 @@
 use Rattle.node_rules.specs.declared.refusal.CoordinatorRefusal.TheVariants.{NotAllowed, SessionsFull, NoRandom}
 use Rattle.node_rules.specs.Coordinators.{orders}
-use Rattle.plc_station.proofs.Carrying.{if_some, at_some}
+use Rattle.plc_station.proofs.CarriedPlans.{if_some, at_some}
 use Rattle.coordinator.specs.CoordinatorStates.{node_of}
-use Rattle.coordinator.proofs.Storing.{refusal, carried_by}
+use Rattle.coordinator.proofs.StoredChanges.{refusal, carried_by}
 use Rattle.coordinator.proofs.Challenges.{not_allowed, full, no_random, challenges}
 use Rattle.coordinator.proofs.coordinator.Coordinator.challenge.Goals as goal
 

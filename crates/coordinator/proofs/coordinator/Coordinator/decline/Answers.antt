@@ -1,7 +1,7 @@
-use Rattle.plc_station.proofs.Carrying.{if_some, at_some}
+use Rattle.plc_station.proofs.CarriedPlans.{if_some, at_some}
 use Rattle.coordinator.specs.CoordinatorStates.{node_of}
-use Rattle.node_rules.specs.Hearing.{dropped}
-use Rattle.coordinator.proofs.Storing.{refusal}
+use Rattle.node_rules.specs.HearingRules.{dropped}
+use Rattle.coordinator.proofs.StoredChanges.{refusal}
 use Rattle.std.proofs.Common.{Ok, Err}
 use Rattle.coordinator.proofs.RequestRules.{decline_lacks, declined}
 use Rattle.coordinator.proofs.coordinator.Coordinator.decline.Goals as goal

@@ -2,12 +2,12 @@ use Rattle.std.proofs.Common.{refl, ap, ◌∙◌}
 use Rattle.group_keys.specs.KeyBook as book
 use Rattle.node_rules.specs.declared.refusal.CoordinatorRefusal.TheVariants.{MetersFull}
 use Rattle.node_rules.specs.Coordinators.{orders, changed}
-use Rattle.node_rules.specs.Carrying.{nothing}
-use Rattle.plc_station.proofs.Carrying.{if_some, at_some}
+use Rattle.node_rules.specs.CarriedPlans.{nothing}
+use Rattle.plc_station.proofs.CarriedPlans.{if_some, at_some}
 use Rattle.coordinator.specs.CoordinatorStates.{node_of}
-use Rattle.coordinator.proofs.Storing.{refusal, by_some, not_none}
-use Rattle.coordinator.proofs.Entering.{room_kept}
-use Rattle.coordinator.proofs.Depoting.{depot_full, may_issue, runs, depot_done, depot_stopped, depot_unissued}
+use Rattle.coordinator.proofs.StoredChanges.{refusal, by_some, not_none}
+use Rattle.coordinator.proofs.BookEntries.{room_kept}
+use Rattle.coordinator.proofs.DepotJoins.{depot_full, may_issue, runs, depot_done, depot_stopped, depot_unissued}
 use Rattle.coordinator.proofs.coordinator.Coordinator.depot.Goals as goal
 
 pub returns-then-not-has_room-clause-carries : goal.returns-then-not-has_room-clause-carries

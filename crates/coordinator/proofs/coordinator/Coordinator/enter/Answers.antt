@@ -1,9 +1,9 @@
 use Rattle.std.proofs.Common.{true, false}
-use Rattle.plc_station.proofs.Carrying.{if_some, at_some}
+use Rattle.plc_station.proofs.CarriedPlans.{if_some, at_some}
 use Rattle.node_rules.specs.Coordinators.{without_session, with_book_entry}
 use Rattle.node_rules.specs.Drafts.{empty_draft}
 use Rattle.coordinator.specs.CoordinatorStates.{node_of}
-use Rattle.coordinator.proofs.Entering.{remembered, remembered_stop, does_by, held_same, held_other}
+use Rattle.coordinator.proofs.BookEntries.{remembered, remembered_stop, does_by, held_same, held_other}
 use Rattle.coordinator.proofs.coordinator.Coordinator.enter.Goals as goal
 
 pub returns-then-has_entry-clause-does : goal.returns-then-has_entry-clause-does

@@ -1,13 +1,13 @@
-use Rattle.plc_station.proofs.Carrying.{if_some, at_some}
+use Rattle.plc_station.proofs.CarriedPlans.{if_some, at_some}
 use Rattle.node_rules.specs.Memory.{CoordinatorSession}
 use Rattle.coordinator.specs.CoordinatorStates.{node_of}
-use Rattle.node_rules.specs.Hearing.{dropped}
-use Rattle.coordinator.proofs.Storing.{refusal, by_some}
+use Rattle.node_rules.specs.HearingRules.{dropped}
+use Rattle.coordinator.proofs.StoredChanges.{refusal, by_some}
 use Rattle.std.proofs.Common.{Ok, Err}
 use Rattle.group_keys.specs.declared.key_book.BookEntry.{BookEntry}
 use Rattle.group_keys.specs.KeyBook.{issued_entry}
 use Rattle.coordinator.specs.Packets.{noting}
-use Rattle.coordinator.proofs.Depoting.{runs}
+use Rattle.coordinator.proofs.DepotJoins.{runs}
 use Rattle.coordinator.proofs.PacketRules.{keys_lack, keys_stopped, keys_room, keys_given}
 use Rattle.coordinator.proofs.coordinator.Coordinator.give_keys.Goals as goal
 

@@ -1,11 +1,11 @@
 use Rattle.std.proofs.Common.{Result, sym, subst}
 use Rattle.node_rules.specs.declared.heard.CoordinatorHeard.{CoordinatorHeard}
 use Rattle.node_rules.specs.declared.refusal.Dropped.{Dropped}
-use Rattle.node_rules.specs.Carrying.{Carries}
+use Rattle.node_rules.specs.CarriedPlans.{Carries}
 use Rattle.node_rules.specs.Coordinators as rules
-use Rattle.plc_station.proofs.Carrying.{at_some}
+use Rattle.plc_station.proofs.CarriedPlans.{at_some}
 use Rattle.coordinator.specs.CoordinatorStates.{memory_in, node_of, identity_of}
-use Rattle.coordinator.proofs.Storing.{on_parts, by_some}
+use Rattle.coordinator.proofs.StoredChanges.{on_parts, by_some}
 use Rattle.coordinator.proofs.Parts.{part_runs}
 use Rattle.coordinator.proofs.HearingRules.{runs_on, nothing_out, heard_joining, heard_other, never_itself, replied_other}
 use Rattle.coordinator.proofs.coordinator.Coordinator.hear.Goals as goal

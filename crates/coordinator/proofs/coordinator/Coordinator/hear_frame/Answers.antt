@@ -1,7 +1,7 @@
 use Rattle.std.proofs.Common.{refl}
 use Rattle.coordinator.specs.CoordinatorStates.{memory_in}
-use Rattle.plc_station.proofs.Carrying.{at_some}
-use Rattle.coordinator.proofs.Storing.{by_some}
+use Rattle.plc_station.proofs.CarriedPlans.{at_some}
+use Rattle.coordinator.proofs.StoredChanges.{by_some}
 use Rattle.coordinator.proofs.Parts.{part_runs, part_agrees, part_home, part_book}
 use Rattle.coordinator.proofs.Within.{home_holds}
 use Rattle.coordinator.proofs.LineRules.{hear_keeps}

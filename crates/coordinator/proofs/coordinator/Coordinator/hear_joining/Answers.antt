@@ -1,8 +1,8 @@
-use Rattle.plc_station.proofs.Carrying.{if_some, at_some}
+use Rattle.plc_station.proofs.CarriedPlans.{if_some, at_some}
 use Rattle.coordinator.specs.CoordinatorStates.{node_of, identity_of}
-use Rattle.node_rules.specs.Hearing.{dropped}
+use Rattle.node_rules.specs.HearingRules.{dropped}
 use Rattle.std.proofs.Common.{sym, ◌∙◌}
-use Rattle.coordinator.proofs.Storing.{refusal, carried_by}
+use Rattle.coordinator.proofs.StoredChanges.{refusal, carried_by}
 use Rattle.node_rules.specs.declared.refusal.Dropped.TheVariants.{BadUnit}
 use Rattle.coordinator.proofs.HearingRules.{no_message, may_not_come, comes}
 use Rattle.coordinator.proofs.coordinator.Coordinator.hear_joining.Goals as goal

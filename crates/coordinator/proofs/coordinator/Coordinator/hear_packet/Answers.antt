@@ -1,8 +1,8 @@
 use Rattle.std.proofs.Common.{length, sym}
 use Rattle.std.proofs.lemmas.Bool.{eqb-true, eqb-false}
-use Rattle.plc_station.proofs.Carrying.{if_some, at_some}
+use Rattle.plc_station.proofs.CarriedPlans.{if_some, at_some}
 use Rattle.coordinator.specs.CoordinatorStates.{node_of, identity_of}
-use Rattle.coordinator.proofs.Storing.{carried_by}
+use Rattle.coordinator.proofs.StoredChanges.{carried_by}
 use Rattle.coordinator.proofs.HearingRules.{asks, replies}
 use Rattle.coordinator.proofs.coordinator.Coordinator.hear_packet.Goals as goal
 

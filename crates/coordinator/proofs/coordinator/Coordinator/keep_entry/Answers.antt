@@ -5,8 +5,8 @@ use Rattle.node_rules.specs.Coordinators.{with_book_entry}
 use Rattle.node_rules.specs.States.{State}
 use Rattle.coordinator.specs.CoordinatorStates.{memory_in, state_in}
 use Rattle.coordinator.specs.DraftsCarriedOut.{Does}
-use Rattle.coordinator.proofs.Storing.{on_parts}
-use Rattle.coordinator.proofs.Booking.{booked, unbooked}
+use Rattle.coordinator.proofs.StoredChanges.{on_parts}
+use Rattle.coordinator.proofs.BookPuts.{booked, unbooked}
 use Rattle.coordinator.proofs.coordinator.Coordinator.keep_entry.Goals as goal
 
 pub returns-in_default-clause-does : goal.returns-in_default-clause-does

@@ -2,10 +2,10 @@ use Rattle.std.proofs.Common.{sym, subst}
 use Rattle.plc_base.specs.declared.out_frame.Out.{Out}
 use Rattle.node_rules.specs.declared.refusal.CoordinatorRefusal.TheVariants.{NotAllowed}
 use Rattle.node_rules.specs.Coordinators.{orders, kick}
-use Rattle.node_rules.specs.Carrying.{Carries}
-use Rattle.plc_station.proofs.Carrying.{if_some, at_some}
+use Rattle.node_rules.specs.CarriedPlans.{Carries}
+use Rattle.plc_station.proofs.CarriedPlans.{if_some, at_some}
 use Rattle.coordinator.specs.CoordinatorStates.{node_of}
-use Rattle.coordinator.proofs.Storing.{refusal, carried_by}
+use Rattle.coordinator.proofs.StoredChanges.{refusal, carried_by}
 use Rattle.coordinator.proofs.Kicks.{room_of, not_allowed, not_known, kicks, silent_plan}
 use Rattle.coordinator.proofs.coordinator.Coordinator.kick.Goals as goal
 

@@ -1,13 +1,13 @@
 use Rattle.std.proofs.Common.{ℕ, List, length, sym, subst}
 use Rattle.std.specs.Prelude.{IfSome}
-use Rattle.node_rules.specs.Carrying.{Carries}
-use Rattle.node_rules.specs.Composing.{HasRoom}
-use Rattle.plc_station.proofs.Carrying.{if_some, at_some}
+use Rattle.node_rules.specs.CarriedPlans.{Carries}
+use Rattle.node_rules.specs.ComposedPlans.{HasRoom}
+use Rattle.plc_station.proofs.CarriedPlans.{if_some, at_some}
 use Rattle.coordinator.specs.CoordinatorStates.{node_of}
-use Rattle.coordinator.specs.Kicking.{shut_out}
+use Rattle.coordinator.specs.Kicks.{shut_out}
 use Rattle.coordinator.specs.MeshCommands.{command_sent}
-use Rattle.coordinator.proofs.Storing.{by_some}
-use Rattle.coordinator.proofs.Depoting.{runs}
+use Rattle.coordinator.proofs.StoredChanges.{by_some}
+use Rattle.coordinator.proofs.DepotJoins.{runs}
 use Rattle.coordinator.proofs.Kicks.{ordered_done, ordered_stopped, room_left}
 use Rattle.coordinator.proofs.coordinator.Coordinator.kick_by_command.Goals as goal
 

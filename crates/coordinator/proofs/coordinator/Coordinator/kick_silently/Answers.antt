@@ -1,4 +1,4 @@
-use Rattle.plc_station.proofs.Carrying.{if_some, at_some}
+use Rattle.plc_station.proofs.CarriedPlans.{if_some, at_some}
 use Rattle.coordinator.specs.CoordinatorStates.{node_of}
 use Rattle.coordinator.proofs.Kicks.{silent_done, silent_stopped}
 use Rattle.coordinator.proofs.coordinator.Coordinator.kick_silently.Goals as goal

@@ -1,7 +1,7 @@
 use Rattle.std.proofs.Common.{sym, ◌∙◌}
-use Rattle.plc_station.proofs.Carrying.{at_some}
+use Rattle.plc_station.proofs.CarriedPlans.{at_some}
 use Rattle.coordinator.specs.CoordinatorStates.{CoordinatorState, memory_in}
-use Rattle.coordinator.proofs.Storing.{on_parts}
+use Rattle.coordinator.proofs.StoredChanges.{on_parts}
 use Rattle.coordinator.proofs.NextEnds.{is_first, is_first_alone}
 use Rattle.coordinator.proofs.coordinator.Coordinator.next_end.Goals as goal
 

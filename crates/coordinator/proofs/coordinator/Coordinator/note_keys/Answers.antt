@@ -1,10 +1,10 @@
-use Rattle.plc_station.proofs.Carrying.{if_some, at_some}
+use Rattle.plc_station.proofs.CarriedPlans.{if_some, at_some}
 use Rattle.node_rules.specs.Memory.{CoordinatorSession}
 use Rattle.coordinator.specs.CoordinatorStates.{node_of}
 use Rattle.std.proofs.Common.{true, false, ap, ◌∙◌}
 use Rattle.group_keys.specs.declared.key_book.BookEntry.{BookEntry}
 use Rattle.group_keys.specs.KeyBook.{has_room}
-use Rattle.coordinator.proofs.Storing.{by_some}
+use Rattle.coordinator.proofs.StoredChanges.{by_some}
 use Rattle.coordinator.proofs.Challenges.{session_runs}
 use Rattle.coordinator.proofs.PacketRules.{noted_as, entry_room}
 use Rattle.coordinator.proofs.coordinator.Coordinator.note_keys.Goals as goal

@@ -5,7 +5,7 @@ use Rattle.node_rules.specs.declared.refusal.RingRefusal.TheVariants as rings
 use Rattle.node_rules.specs.Memory.{StationMemory, Memory}
 use Rattle.node_rules.specs.States.{State}
 use Rattle.coordinator.specs.CoordinatorStates.{state_in}
-use Rattle.coordinator.specs.Opening.{Begins, halted_state}
+use Rattle.coordinator.specs.CoordinatorStart.{Begins, halted_state}
 use Rattle.coordinator.proofs.Beginnings.{Begun, begins, refuses, begun}
 use Rattle.coordinator.proofs.coordinator.Coordinator.open.Goals as goal
 

@@ -1,8 +1,8 @@
-use Rattle.plc_station.proofs.Carrying.{if_some, at_some}
+use Rattle.plc_station.proofs.CarriedPlans.{if_some, at_some}
 use Rattle.node_rules.specs.Memory.{CoordinatorSession}
 use Rattle.coordinator.specs.CoordinatorStates.{node_of}
-use Rattle.node_rules.specs.Hearing.{dropped}
-use Rattle.coordinator.proofs.Storing.{refusal, by_some}
+use Rattle.node_rules.specs.HearingRules.{dropped}
+use Rattle.coordinator.proofs.StoredChanges.{refusal, by_some}
 use Rattle.std.proofs.Common.{Ok, Err, sym, ◌∙◌}
 use Rattle.coordinator.proofs.Challenges.{session_runs}
 use Rattle.coordinator.proofs.RequestRules.{challenge_lacks, opened_room_by, challenged_by}

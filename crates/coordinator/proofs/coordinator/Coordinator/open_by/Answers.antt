@@ -1,12 +1,12 @@
 use Rattle.std.proofs.Common.{ℕ, List, length, Some, sym, ap, subst, ◌∙◌}
 use Rattle.std.proofs.lemmas.Result.{err_from_is_err_and}
 use Rattle.node_rules.specs.declared.heard.Way.TheVariants.{Mesh}
-use Rattle.node_rules.specs.Composing.{HasRoom}
+use Rattle.node_rules.specs.ComposedPlans.{HasRoom}
 use Rattle.node_rules.specs.Coordinators.{orders}
-use Rattle.plc_station.proofs.Carrying.{if_some, at_some}
+use Rattle.plc_station.proofs.CarriedPlans.{if_some, at_some}
 use Rattle.coordinator.specs.CoordinatorStates.{node_of}
 use Rattle.coordinator.specs.MeshCommands.{lacks}
-use Rattle.coordinator.proofs.Storing.{refusal, by_some}
+use Rattle.coordinator.proofs.StoredChanges.{refusal, by_some}
 use Rattle.coordinator.proofs.Challenges.{ordered_done, lacking_plan, session_runs, session_room}
 use Rattle.coordinator.proofs.coordinator.Coordinator.open_by.Goals as goal
 

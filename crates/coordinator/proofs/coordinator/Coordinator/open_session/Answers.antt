@@ -1,7 +1,7 @@
-use Rattle.plc_station.proofs.Carrying.{if_some, at_some}
+use Rattle.plc_station.proofs.CarriedPlans.{if_some, at_some}
 use Rattle.coordinator.specs.CoordinatorStates.{node_of, identity_of}
-use Rattle.node_rules.specs.Hearing.{dropped}
-use Rattle.coordinator.proofs.Storing.{refusal, carried_by}
+use Rattle.node_rules.specs.HearingRules.{dropped}
+use Rattle.coordinator.proofs.StoredChanges.{refusal, carried_by}
 use Rattle.node_rules.specs.declared.refusal.Dropped.TheVariants.{SessionsFull, NoRandom}
 use Rattle.coordinator.proofs.RequestRules.{full, no_random, opens}
 use Rattle.coordinator.proofs.coordinator.Coordinator.open_session.Goals as goal

@@ -1,8 +1,8 @@
 use Rattle.std.proofs.Common.{refl, ◌∙◌}
-use Rattle.plc_station.proofs.Carrying.{at_some}
+use Rattle.plc_station.proofs.CarriedPlans.{at_some}
 use Rattle.coordinator.specs.CoordinatorStates.{memory_in}
-use Rattle.coordinator.specs.Ordering.{order_answer}
-use Rattle.coordinator.proofs.Storing.{on_parts, by_some, carried_by}
+use Rattle.coordinator.specs.OrderAnswers.{order_answer}
+use Rattle.coordinator.proofs.StoredChanges.{on_parts, by_some, carried_by}
 use Rattle.coordinator.proofs.Parts.{part_runs, part_agrees, part_home, part_book}
 use Rattle.coordinator.proofs.Within.{within_carried, home_holds}
 use Rattle.coordinator.proofs.CommandOrders.{order_plan, said, command_keeps}

@@ -1,7 +1,7 @@
-use Rattle.plc_station.proofs.Carrying.{at_some}
-use Rattle.coordinator.proofs.Storing.{on_parts}
+use Rattle.plc_station.proofs.CarriedPlans.{at_some}
+use Rattle.coordinator.proofs.StoredChanges.{on_parts}
 use Rattle.coordinator.proofs.Parts.{part_home}
-use Rattle.coordinator.proofs.Reaching.{no_route, no_counter, reached}
+use Rattle.coordinator.proofs.CommandRoutes.{no_route, no_counter, reached}
 use Rattle.coordinator.proofs.coordinator.Coordinator.reaches.Goals as goal
 
 pub returns-in_default : goal.returns-in_default

@@ -2,7 +2,7 @@ use Rattle.std.proofs.Common.{Err, refl}
 use Rattle.node_rules.specs.Ciphers.{network}
 use Rattle.node_rules.specs.Frames.{arrived}
 use Rattle.coordinator.proofs.ReceivedFrames.{heard, refused, was_running}
-use Rattle.coordinator.proofs.Storing.{not_none}
+use Rattle.coordinator.proofs.StoredChanges.{not_none}
 use Rattle.coordinator.proofs.coordinator.Coordinator.receive.Goals as goal
 
 pub returns-in-Ok-clause-halted : goal.returns-in-Ok-clause-halted

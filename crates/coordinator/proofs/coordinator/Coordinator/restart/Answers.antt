@@ -2,7 +2,7 @@
 use Rattle.std.proofs.Common.{ap}
 use Rattle.node_rules.specs.Memory.{StationMemory}
 use Rattle.node_rules.specs.States.{State}
-use Rattle.coordinator.proofs.Restarting.{unread_holds}
+use Rattle.coordinator.proofs.Restarts.{unread_holds}
 use Rattle.coordinator.proofs.coordinator.Coordinator.restart.Goals as goal
 
 pub returns-in_err-restart-clause-holds : goal.returns-in_err-restart-clause-holds

@@ -1,7 +1,7 @@
-use Rattle.plc_station.proofs.Carrying.{at_some}
-use Rattle.coordinator.proofs.Storing.{on_parts}
+use Rattle.plc_station.proofs.CarriedPlans.{at_some}
+use Rattle.coordinator.proofs.StoredChanges.{on_parts}
 use Rattle.coordinator.proofs.Parts.{part_home}
-use Rattle.coordinator.proofs.Reaching.{command_room, command_lacks}
+use Rattle.coordinator.proofs.CommandRoutes.{command_room, command_lacks}
 use Rattle.coordinator.proofs.coordinator.Coordinator.room_for.Goals as goal
 
 pub returns-in-Ok-clause-room : goal.returns-in-Ok-clause-room

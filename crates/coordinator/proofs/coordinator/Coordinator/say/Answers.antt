@@ -1,4 +1,4 @@
-use Rattle.plc_station.proofs.Carrying.{if_some, at_some}
+use Rattle.plc_station.proofs.CarriedPlans.{if_some, at_some}
 use Rattle.coordinator.specs.CoordinatorStates.{node_of}
 use Rattle.std.proofs.Common.{sym, ap, subst, ◌∙◌, ◌++◌, ◌∷◌, []}
 use Rattle.std.specs.Prelude.{IfSome}
@@ -6,7 +6,7 @@ use Rattle.plc_base.specs.declared.out_frame.Out.{Out}
 use Rattle.node_rules.specs.Ciphers.{network}
 use Rattle.node_rules.specs.Frames.{Down, spelled}
 use Rattle.coordinator.specs.JoiningReplies.{RoomToSay, saying}
-use Rattle.coordinator.proofs.Storing.{carried_by}
+use Rattle.coordinator.proofs.StoredChanges.{carried_by}
 use Rattle.coordinator.proofs.ReplyRules.{air_said, near_said}
 use Rattle.coordinator.proofs.coordinator.Coordinator.say.Goals as goal
 

@@ -1,4 +1,4 @@
-use Rattle.plc_station.proofs.Carrying.{if_some, at_some}
+use Rattle.plc_station.proofs.CarriedPlans.{if_some, at_some}
 use Rattle.coordinator.specs.CoordinatorStates.{node_of}
 use Rattle.coordinator.proofs.ReplyRules.{mesh_said, mesh_unsaid}
 use Rattle.coordinator.proofs.coordinator.Coordinator.say_over_mesh.Goals as goal

@@ -1,6 +1,6 @@
 use Rattle.std.proofs.Common.{Some, sym, subst}
 use Rattle.std.specs.Prelude.{◌≡◌, IfSome, IfOk, IfErr}
-use Rattle.plc_station.proofs.Carrying.{if_some}
+use Rattle.plc_station.proofs.CarriedPlans.{if_some}
 use Rattle.coordinator.specs.CoordinatorStates.{node_of}
 use Rattle.coordinator.specs.JoiningReplies.{RoomToSay, say_fault}
 use Rattle.coordinator.proofs.coordinator.Coordinator.say_room.Goals as goal

@@ -1,12 +1,12 @@
 use Rattle.std.proofs.Common.{refl, ap, sym}
 use Rattle.std.specs.Option.{option_map}
-use Rattle.node_rules.specs.Composing.{answer_if_sent}
+use Rattle.node_rules.specs.ComposedPlans.{answer_if_sent}
 use Rattle.node_rules.specs.Coordinators.{orders}
-use Rattle.node_rules.proofs.Composing.{command_sent}
-use Rattle.plc_station.proofs.Carrying.{at_some}
-use Rattle.plc_station.proofs.Ending.{carried_by as station_by}
+use Rattle.node_rules.proofs.ComposedPlans.{command_sent}
+use Rattle.plc_station.proofs.CarriedPlans.{at_some}
+use Rattle.plc_station.proofs.EndedSteps.{carried_by as station_by}
 use Rattle.coordinator.specs.CoordinatorStates.{memory_in}
-use Rattle.coordinator.proofs.Storing.{on_parts, by_some}
+use Rattle.coordinator.proofs.StoredChanges.{on_parts, by_some}
 use Rattle.coordinator.proofs.Parts.{part_runs, part_agrees, part_home, part_book}
 use Rattle.coordinator.proofs.Within.{within_carried, home_holds}
 use Rattle.coordinator.proofs.CommandOrders.{command_keeps}

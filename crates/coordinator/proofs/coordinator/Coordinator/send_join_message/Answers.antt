@@ -1,7 +1,7 @@
 use Rattle.std.proofs.Common.{ℕ, List, length, sym, subst}
 use Rattle.std.specs.Prelude.{IfSome}
-use Rattle.node_rules.specs.Composing.{HasRoom}
-use Rattle.node_rules.specs.Carrying.{Carries}
+use Rattle.node_rules.specs.ComposedPlans.{HasRoom}
+use Rattle.node_rules.specs.CarriedPlans.{Carries}
 use Rattle.coordinator.specs.CoordinatorStates.{node_of}
 use Rattle.coordinator.specs.MeshCommands.{command_sent}
 use Rattle.coordinator.proofs.coordinator.Coordinator.send_join_message.Goals as goal

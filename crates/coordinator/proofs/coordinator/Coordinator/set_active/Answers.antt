@@ -4,12 +4,12 @@ use Rattle.group_keys.specs.KeyRing.{with_active}
 use Rattle.node_rules.specs.Calls.{ringing_ends}
 use Rattle.node_rules.specs.Drafts.{empty_draft, with_ring}
 use Rattle.node_rules.specs.Coordinators.{orders}
-use Rattle.node_rules.specs.Carrying.{nothing}
-use Rattle.plc_station.proofs.Carrying.{at_some}
+use Rattle.node_rules.specs.CarriedPlans.{nothing}
+use Rattle.plc_station.proofs.CarriedPlans.{at_some}
 use Rattle.coordinator.proofs.OtherWords.{done_as, failed_as}
-use Rattle.plc_station.proofs.Ending.{carried_by as station_by}
+use Rattle.plc_station.proofs.EndedSteps.{carried_by as station_by}
 use Rattle.coordinator.specs.CoordinatorStates.{memory_in}
-use Rattle.coordinator.proofs.Storing.{on_parts, by_some, carried_by}
+use Rattle.coordinator.proofs.StoredChanges.{on_parts, by_some, carried_by}
 use Rattle.coordinator.proofs.Parts.{part_runs, part_agrees, part_home, part_book}
 use Rattle.coordinator.proofs.RingOrders.{active_plan}
 use Rattle.coordinator.proofs.Within.{within_carried, ring_plan, KeepsHome, home_holds, ring_keeps, ring_home, active_home}

@@ -3,9 +3,9 @@ use Rattle.group_keys.specs.declared.key_book.BookEntry.{BookEntry}
 use Rattle.node_rules.specs.MemoryDrafts.{with_memory_by}
 use Rattle.node_rules.specs.Drafts.{empty_draft}
 use Rattle.node_rules.specs.Coordinators.{without_session, with_book_entry}
-use Rattle.plc_station.proofs.Carrying.{if_some, at_some}
+use Rattle.plc_station.proofs.CarriedPlans.{if_some, at_some}
 use Rattle.coordinator.specs.CoordinatorStates.{node_of}
-use Rattle.coordinator.proofs.Entering.{remembered, remembered_stop, does_by}
+use Rattle.coordinator.proofs.BookEntries.{remembered, remembered_stop, does_by}
 use Rattle.coordinator.proofs.coordinator.Coordinator.shut_out.Goals as goal
 
 pub returns-in_default-clause-does : goal.returns-in_default-clause-does

@@ -1,8 +1,8 @@
-use Rattle.plc_station.proofs.Carrying.{if_some, at_some}
+use Rattle.plc_station.proofs.CarriedPlans.{if_some, at_some}
 use Rattle.node_rules.specs.Memory.{CoordinatorSession}
 use Rattle.coordinator.specs.CoordinatorStates.{node_of}
-use Rattle.node_rules.specs.Hearing.{dropped}
-use Rattle.coordinator.proofs.Storing.{refusal, carried_by}
+use Rattle.node_rules.specs.HearingRules.{dropped}
+use Rattle.coordinator.proofs.StoredChanges.{refusal, carried_by}
 use Rattle.coordinator.proofs.PacketRules.{fourth_refused, fourth_taken, agreed_is, agreed_tags, none_mapped}
 use Rattle.coordinator.proofs.coordinator.Coordinator.take_fourth.Goals as goal
 

@@ -1,8 +1,8 @@
-use Rattle.plc_station.proofs.Carrying.{if_some, at_some}
+use Rattle.plc_station.proofs.CarriedPlans.{if_some, at_some}
 use Rattle.node_rules.specs.Memory.{CoordinatorSession}
 use Rattle.coordinator.specs.CoordinatorStates.{node_of, identity_of}
 use Rattle.std.proofs.Common.{sym}
-use Rattle.coordinator.proofs.Storing.{carried_by}
+use Rattle.coordinator.proofs.StoredChanges.{carried_by}
 use Rattle.coordinator.proofs.PacketRules.{second_awaited, fourth_awaited}
 use Rattle.coordinator.proofs.coordinator.Coordinator.take_packet.Goals as goal
 

@@ -1,5 +1,5 @@
-use Rattle.plc_station.proofs.Carrying.{at_some}
-use Rattle.coordinator.proofs.Storing.{on_parts}
+use Rattle.plc_station.proofs.CarriedPlans.{at_some}
+use Rattle.coordinator.proofs.StoredChanges.{on_parts}
 use Rattle.coordinator.proofs.Parts.{part_agrees}
 use Rattle.coordinator.proofs.GivenRandoms.{random_carried}
 use Rattle.coordinator.proofs.coordinator.Coordinator.take_random.Goals as goal

@@ -1,8 +1,8 @@
-use Rattle.plc_station.proofs.Carrying.{if_some, at_some}
+use Rattle.plc_station.proofs.CarriedPlans.{if_some, at_some}
 use Rattle.node_rules.specs.Memory.{CoordinatorSession}
 use Rattle.coordinator.specs.CoordinatorStates.{node_of}
-use Rattle.node_rules.specs.Hearing.{dropped}
-use Rattle.coordinator.proofs.Storing.{refusal, carried_by}
+use Rattle.node_rules.specs.HearingRules.{dropped}
+use Rattle.coordinator.proofs.StoredChanges.{refusal, carried_by}
 use Rattle.std.proofs.Common.{refl, sym, ap, ◌∙◌}
 use Rattle.eap_psk.specs.declared.server.Server.{Server}
 use Rattle.node_rules.specs.Coordinators.{sessions_full}

@@ -10,15 +10,15 @@ returns-then-at-room-clause-settled g c = λ choice closable.
       arith,
       less,
       c.if-at-room.true,
-      c.room_of-room.ensures,
+      c.cell_count-room.ensures,
     ))
 
 pub returns-in_err-close_cell-clause-left : goal.returns-in_err-close_cell-clause-left
 returns-in_err-close_cell-clause-left g c =
-    let fits : c.args.at < room (g.B.FlashBank.bank c.args.self.now.live).size = omega (arith, c.if-at-room.false, c.room_of-room.ensures) in
+    let fits : c.args.at < room (g.B.FlashBank.bank c.args.self.now.live).size = omega (arith, c.if-at-room.false, c.cell_count-room.ensures) in
     on_err c.from_residual.result (λ choice closable. c.close_cell.ensures.left choice closable.0 (closable.1 fits))
 
 pub returns-clause-settled : goal.returns-clause-settled
 returns-clause-settled g c =
-    let fits : c.args.at < room (g.B.FlashBank.bank c.args.self.now.live).size = omega (arith, c.if-at-room.false, c.room_of-room.ensures) in
+    let fits : c.args.at < room (g.B.FlashBank.bank c.args.self.now.live).size = omega (arith, c.if-at-room.false, c.cell_count-room.ensures) in
     λ choice closable. c.in_ok-close_cell.ensures.settled choice closable.0 (closable.1 fits)

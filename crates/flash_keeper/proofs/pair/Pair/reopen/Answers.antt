@@ -37,10 +37,10 @@ returns-clause-ready g c =
     subst (λ (b : Bank). AreReady b spare c.hand_over.new.self.next) (sym c.in_ok-hand_over.ensures.live)
     (subst (λ (k : ℕ). AreReady (g.B.FlashBank.bank c.args.self.now.spare) spare k) (sym c.in_ok-hand_over.ensures.next)
     (copy_goes_on (g.B.FlashBank.bank c.args.self.now.live) (g.B.FlashBank.bank c.args.self.now.spare) spare c.args.self.now.next c.in-Some.cells
-    (c.requires.copy c.in-Some.cells c.in-Some.is) c.requires.sizes c.in_ok-hand_over.ensures.spare))
+    (c.requires.copy_cells c.in-Some.cells c.in-Some.is) c.requires.sizes c.in_ok-hand_over.ensures.spare))
 
 pub returns-clause-records : goal.returns-clause-records
 returns-clause-records g c =
     let live = c.in_ok-hand_over.ensures.live in
     let next = c.in_ok-hand_over.ensures.next in
-    one_of (λ i. upto (live i).words (next i)) (c.requires.copy c.in-Some.cells c.in-Some.is).stands
+    one_of (λ i. upto (live i).words (next i)) (c.requires.copy_cells c.in-Some.cells c.in-Some.is).stands

@@ -5,11 +5,11 @@ use Rattle.std.specs.List.{list_any}
 use Rattle.std.specs.FinMap as map
 use Rattle.block_pool.specs.Pool.{IsChain, chain_octets, overwrite}
 use Rattle.block_pool.proofs.Callers.{chain_octets-insert}
-use Rattle.fragment_buffers.specs.Taking.{blocks}
+use Rattle.fragment_buffers.specs.PieceIntake.{blocks}
 use Rattle.fragment_buffers.specs.Entries.{Entry, entry_at, no_entry, place_of, meet, blocks_used}
 use Rattle.fragment_buffers.specs.Steps.{Stays}
-use Rattle.fragment_buffers.proofs.Writing.{Writes, entry_begun, begun_fits, gathered_begun, long_written, stays-insert}
-use Rattle.fragment_buffers.proofs.Growing.{begun_last, last_is, same_last, with_place}
+use Rattle.fragment_buffers.proofs.PieceWrites.{Writes, entry_begun, begun_fits, gathered_begun, long_written, stays-insert}
+use Rattle.fragment_buffers.proofs.GrownReassemblies.{begun_last, last_is, same_last, with_place}
 use Rattle.fragment_buffers.proofs.buffers.Buffers.begin.Goals as goal
 
 -- the reassembly before its piece is written

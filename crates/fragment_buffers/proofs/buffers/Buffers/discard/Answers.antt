@@ -3,7 +3,7 @@ use Rattle.std.specs.List.{All}
 use Rattle.fragment_buffers.specs.declared.buffers.Buffer.{Buffer}
 use Rattle.fragment_buffers.specs.Entries.{IsEntry, entry_at}
 use Rattle.fragment_buffers.proofs.OneList.{there, counted, few_counted, fits, anew, pieces_none, cut_from, same_read, rule_at, rules_set}
-use Rattle.fragment_buffers.proofs.Writing.{empty_entry}
+use Rattle.fragment_buffers.proofs.PieceWrites.{empty_entry}
 use Rattle.fragment_buffers.proofs.buffers.Buffers.discard.Goals as goal
 
 pub front-requires : goal.front-requires

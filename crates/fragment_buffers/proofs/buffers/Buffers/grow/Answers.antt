@@ -1,8 +1,9 @@
 use Rattle.std.proofs.Common.{ap, sym, ◌∙◌, ◌≡◌, arith}
 use Rattle.std.specs.List.{list_any}
 use Rattle.fragment_buffers.specs.Entries.{entry_at, place_of, meet}
-use Rattle.fragment_buffers.proofs.Writing.{Fits}
-use Rattle.fragment_buffers.proofs.Growing.{AllBefore, emptied, left, Meets, used_before, fits_grown, within_grown, items_grown, changes_grown, gathered_all}
+use Rattle.fragment_buffers.proofs.PieceWrites.{Fits}
+use Rattle.fragment_buffers.proofs.GrownReassemblies.{AllBefore, emptied, left, Meets, used_before, fits_grown, within_grown, items_grown, changes_grown}
+use Rattle.fragment_buffers.proofs.GrownReassemblies.{gathered_all}
 use Rattle.fragment_buffers.proofs.buffers.Buffers.grow.Goals.{then-overlap, else-overlap}
 use Rattle.fragment_buffers.proofs.buffers.Buffers.grow.Goals as goal
 

@@ -3,7 +3,7 @@ use Rattle.std.specs.List.{All}
 use Rattle.fragment_buffers.specs.declared.buffers.Buffer.{Buffer}
 use Rattle.fragment_buffers.specs.Entries.{IsEntry, entry_at}
 use Rattle.fragment_buffers.proofs.OneList.{there, counted, few_counted, few_more, fits, same_read, more, pieces_more, rule_at, rules_set}
-use Rattle.fragment_buffers.proofs.Writing.{entry_written}
+use Rattle.fragment_buffers.proofs.PieceWrites.{entry_written}
 use Rattle.fragment_buffers.proofs.buffers.Buffers.push_place.Goals as goal
 
 pub front-requires : goal.front-requires

@@ -6,7 +6,7 @@ use Rattle.block_pool.proofs.Callers.{is_chain_if_long}
 use Rattle.fragment_buffers.specs.declared.piece_span.PieceSpan.{PieceSpan}
 use Rattle.fragment_buffers.specs.Entries.{Entry, IsPlace, entry_at, meet}
 use Rattle.fragment_buffers.proofs.OneList.{there, read}
-use Rattle.fragment_buffers.proofs.Writing.{place_fits}
+use Rattle.fragment_buffers.proofs.PieceWrites.{place_fits}
 use Rattle.fragment_buffers.proofs.buffers.Buffers.write.Goals as goal
 
 pub index-requires : goal.index-requires

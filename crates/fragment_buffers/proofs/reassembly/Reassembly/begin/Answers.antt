@@ -1,8 +1,8 @@
 use Rattle.std.proofs.Common.{◌≡◌, Ok, inl, inr, length, sym, ap, ◌∙◌, arith}
-use Rattle.fragment_buffers.specs.Taking.{Taking, Full, taken, blocks}
+use Rattle.fragment_buffers.specs.PieceIntake.{Taking, Full, taken, blocks}
 use Rattle.fragment_buffers.specs.Answers.{answer_of, octets_of, settled_at}
 use Rattle.fragment_buffers.specs.Entries.{reassemblies_in, blocks_used}
-use Rattle.fragment_buffers.proofs.Naming.{full_gathered, new_gathered}
+use Rattle.fragment_buffers.proofs.EntryNames.{full_gathered, new_gathered}
 use Rattle.fragment_buffers.proofs.Rule.{settled_answer}
 use Rattle.fragment_buffers.proofs.reassembly.Reassembly.begin.Goals as goal
 use Rattle.fragment_buffers.proofs.reassembly.Reassembly.begin.Goals.{then-index-ge-REASSEMBLIES-via-then-index-ge-REASSEMBLIES}

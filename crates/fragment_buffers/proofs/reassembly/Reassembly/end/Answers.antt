@@ -1,10 +1,10 @@
 use Rattle.std.proofs.Common.{◌≡◌, ◌+◌, length, sym, ap, subst, ◌∙◌, arith}
 use Rattle.std.specs.List.{remove}
 use Rattle.block_pool.specs.Pool.{IsChain, chain_octets}
-use Rattle.fragment_buffers.specs.Taking.{blocks}
+use Rattle.fragment_buffers.specs.PieceIntake.{blocks}
 use Rattle.fragment_buffers.specs.Entries.{Entry, IsBounded, Keeps, Moves, reassemblies_in, entry_at, blocks_used}
-use Rattle.fragment_buffers.proofs.Writing.{stays-remove}
-use Rattle.fragment_buffers.proofs.Keeping.{AreSome, Ends, kept_chain, gathered_remove, keeps_remove, moves_remove, bounded_after, used_after}
+use Rattle.fragment_buffers.proofs.PieceWrites.{stays-remove}
+use Rattle.fragment_buffers.proofs.PoolEntries.{AreSome, Ends, kept_chain, gathered_remove, keeps_remove, moves_remove, bounded_after, used_after}
 use Rattle.fragment_buffers.proofs.reassembly.Reassembly.end.Goals as goal
 
 pub size-requires : goal.size-requires

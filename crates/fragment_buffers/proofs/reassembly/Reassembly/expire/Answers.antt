@@ -4,9 +4,9 @@ use Rattle.std.proofs.lemmas.List.Edits.{length-remove}
 use Rattle.fragment_buffers.specs.Reassembly.{Reassembly}
 use Rattle.fragment_buffers.specs.Answers.{nothing}
 use Rattle.fragment_buffers.specs.Entries.{entry_at, reassemblies_in}
-use Rattle.fragment_buffers.proofs.Naming.{length-gathered}
-use Rattle.fragment_buffers.proofs.Keeping.{gathered_at, moves_both}
-use Rattle.fragment_buffers.proofs.Expiring.{kept_so_far, expired_at, unexpired_at, all_kept}
+use Rattle.fragment_buffers.proofs.EntryNames.{length-gathered}
+use Rattle.fragment_buffers.proofs.PoolEntries.{gathered_at, moves_both}
+use Rattle.fragment_buffers.proofs.ExpiredEntries.{kept_so_far, expired_at, unexpired_at, all_kept}
 use Rattle.fragment_buffers.proofs.reassembly.Reassembly.expire.Goals as goal
 use Rattle.fragment_buffers.specs.declared.times.TheConstants.{REASSEMBLY_TIME}
 

@@ -1,5 +1,5 @@
 use Rattle.std.proofs.Common.{◌≡◌, ◌-◌, ◌≤◌, ◌++◌, length, take, drop}
-use Rattle.fragment_buffers.specs.Taking.{unexpired}
+use Rattle.fragment_buffers.specs.PieceIntake.{unexpired}
 use Rattle.fragment_buffers.specs.Entries.{reassemblies_in, Keeps, Moves}
 use Rattle.fragment_buffers.proofs.reassembly.Reassembly.expire.Given as goal
 

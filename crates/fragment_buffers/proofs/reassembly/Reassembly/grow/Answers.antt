@@ -1,10 +1,10 @@
 use Rattle.std.proofs.Common.{◌≡◌, length, length-set, set, sym, ap, subst, ◌∙◌, arith}
 use Rattle.block_pool.specs.Pool.{chain_octets}
 use Rattle.fragment_buffers.specs.Reassembly.{begun, placed}
-use Rattle.fragment_buffers.specs.Taking.{grown}
+use Rattle.fragment_buffers.specs.PieceIntake.{grown}
 use Rattle.fragment_buffers.specs.Entries.{Entry, Keeps, Moves, IsBounded, reassemblies_in, entry_at, reassembly_in, blocks_used, no_entry}
 use Rattle.fragment_buffers.specs.Steps.{Changes}
-use Rattle.fragment_buffers.proofs.Keeping.{AreSome, gathered_set, keeps_set, moves_set, bounded_set, used_set}
+use Rattle.fragment_buffers.proofs.PoolEntries.{AreSome, gathered_set, keeps_set, moves_set, bounded_set, used_set}
 use Rattle.fragment_buffers.proofs.reassembly.Reassembly.grow.Goals as goal
 
 pub grow-requires-clause-there : goal.grow-requires-clause-there

@@ -1,10 +1,10 @@
 use Rattle.std.proofs.Common.{◌≡◌, length, sym, ap, subst, ◌∙◌, arith}
 use Rattle.std.specs.List.{list_any}
-use Rattle.fragment_buffers.specs.Taking.{Taking, Held}
+use Rattle.fragment_buffers.specs.PieceIntake.{Taking, Held}
 use Rattle.fragment_buffers.specs.Answers.{taken_of, octets_of, settled_at, joined_at}
 use Rattle.fragment_buffers.specs.Entries.{Entry, IsEntry, entry_at, reassemblies_in, same_place, place_of}
-use Rattle.fragment_buffers.proofs.Keeping.{moves_both}
-use Rattle.fragment_buffers.proofs.Settling.{joined_repeat, joined_grown}
+use Rattle.fragment_buffers.proofs.PoolEntries.{moves_both}
+use Rattle.fragment_buffers.proofs.PlaceRules.{joined_repeat, joined_grown}
 use Rattle.fragment_buffers.proofs.reassembly.Reassembly.join.Goals as goal
 
 pub repeats-requires : goal.repeats-requires

@@ -1,10 +1,10 @@
 use Rattle.std.proofs.Common.{◌≡◌, [], ◌∷◌, ◌++◌, length, sym, ap, subst, ◌∙◌, arith}
 use Rattle.std.proofs.lemmas.List.{length_push}
 use Rattle.std.proofs.lemmas.List.Sums.{sum_by_push}
-use Rattle.fragment_buffers.specs.Taking.{blocks}
+use Rattle.fragment_buffers.specs.PieceIntake.{blocks}
 use Rattle.fragment_buffers.specs.Entries.{Entry, Keeps, Moves, IsBounded, reassemblies_in, entry_at, blocks_used}
 use Rattle.fragment_buffers.specs.Reassembly.{Reassembly}
-use Rattle.fragment_buffers.proofs.Keeping.{AreSome, gathered_push, keeps_push, moves_push, bounded_push}
+use Rattle.fragment_buffers.proofs.PoolEntries.{AreSome, gathered_push, keeps_push, moves_push, bounded_push}
 use Rattle.fragment_buffers.proofs.reassembly.Reassembly.push.Goals as goal
 
 pub begin-requires-clause-few : goal.begin-requires-clause-few

@@ -2,10 +2,10 @@ use Rattle.std.proofs.Common.{◌≡◌, length, sym, ap, subst, ◌∙◌, arit
 use Rattle.std.specs.List.{remove}
 use Rattle.block_pool.specs.Pool.{chain_octets}
 use Rattle.fragment_buffers.specs.declared.reassembly.Taken.TheVariants as answer
-use Rattle.fragment_buffers.specs.Taking.{Taking, Held, Whole}
+use Rattle.fragment_buffers.specs.PieceIntake.{Taking, Held, Whole}
 use Rattle.fragment_buffers.specs.Answers.{taken_of, octets_of, settled_at}
 use Rattle.fragment_buffers.specs.Entries.{Entry, IsEntry, IsCovered, HasGap, no_entry, reassemblies_in, entry_at}
-use Rattle.fragment_buffers.proofs.Settling.{settled_gap, settled_whole}
+use Rattle.fragment_buffers.proofs.PlaceRules.{settled_gap, settled_whole}
 use Rattle.fragment_buffers.proofs.reassembly.Reassembly.settle.Goals as goal
 
 pub is_whole-requires : goal.is_whole-requires

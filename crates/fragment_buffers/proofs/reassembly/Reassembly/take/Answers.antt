@@ -1,8 +1,8 @@
 use Rattle.std.proofs.Common.{◌≡◌, ℕ, ◌<◌, false, List, length, Ok, sym, ap, subst, ◌∙◌}
-use Rattle.fragment_buffers.specs.Taking.{Taking, taken}
+use Rattle.fragment_buffers.specs.PieceIntake.{Taking, taken}
 use Rattle.fragment_buffers.specs.Answers.{answer_of, octets_of, has_name, joined_at}
 use Rattle.fragment_buffers.specs.Entries.{Entry, reassemblies_in, entry_at}
-use Rattle.fragment_buffers.proofs.Naming.{found_gathered}
+use Rattle.fragment_buffers.proofs.EntryNames.{found_gathered}
 use Rattle.fragment_buffers.proofs.Rule.{joined_answer}
 use Rattle.fragment_buffers.proofs.reassembly.Reassembly.take.Goals as goal
 

@@ -1,7 +1,7 @@
 use Rattle.std.proofs.Common.{ap, ◌∙◌}
 use Rattle.line_air.specs.Calendars.{put}
 use Rattle.line_air.specs.Numbered.{due_of}
-use Rattle.line_air.proofs.Putting.{put_in, put_before}
+use Rattle.line_air.proofs.CalendarPuts.{put_in, put_before}
 use Rattle.line_air.proofs.calendar.Calendar.put.Goals as goal
 
 pub invariant_of-self-2 : goal.invariant_of-self-2

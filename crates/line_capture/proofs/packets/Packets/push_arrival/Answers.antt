@@ -2,7 +2,7 @@ use Rattle.std.proofs.Common.{ℕ, List, length, ap, arith, refl}
 use Rattle.pcapng.specs.declared.options.Direction.TheVariants.{Inbound}
 use Rattle.line_capture.specs.Captures.{delivered_notes, run_of, tap_heard}
 use Rattle.line_capture.specs.Places.{time_at}
-use Rattle.line_capture.proofs.Adding.{adds_packet}
+use Rattle.line_capture.proofs.AddedBlocks.{adds_packet}
 use Rattle.line_capture.proofs.Options.{few_octets}
 use Rattle.line_capture.proofs.Rooms.{frame_of, heard_short}
 use Rattle.line_capture.proofs.Steps.{delivered_added}
@@ -10,7 +10,7 @@ use Rattle.line_capture.proofs.packets.Packets.push_arrival.Goals as goal
 
 pub push_inbound-requires-clause-room : goal.push_inbound-requires-clause-room
 push_inbound-requires-clause-room c =
-    let notes = delivered_notes c.args.place.now.number c.args.told.now c.args.flight c.in-Some.flown.now.from c.args.cost in
+    let notes = delivered_notes c.args.place.now.number c.args.recorded.now c.args.flight c.in-Some.flown.now.from c.args.cost in
     let a = few_octets 60 notes c.in_ok-note_delivered.ensures.few in
     omega (arith, a, ap (λ (l : List ℕ). length l) c.in_ok-note_delivered.ensures.options)
 
@@ -18,14 +18,14 @@ pub returns-clause-adds : goal.returns-clause-adds
 returns-clause-adds c =
     let self = c.args.self.now in
     let place = c.args.place.now in
-    let told = c.args.told.now in
+    let recorded = c.args.recorded.now in
     let run = run_of c.args.run.now in
     let flown = c.in-Some.flown.now in
     let octets = c.in-Some-numbered.octets.now in
-    delivered_added self.out.items _ self.tap run place told c.args.flight c.args.node c.args.cost flown octets c.requires.tap c.in-Some.ensures
+    delivered_added self.out.items _ self.tap run place recorded c.args.flight c.args.node c.args.cost flown octets c.requires.tap c.in-Some.ensures
     c.in-Some-numbered.ensures
     (adds_packet self.out.items _ c.note_delivered.new.notes.options (tap_heard self.tap c.args.cost) octets c.args.node c.args.node c.time.result
-    (time_at place told.act) Inbound (delivered_notes place.number told c.args.flight flown.from c.args.cost) c.in_ok-push_inbound.ensures.out refl
+    (time_at place recorded.act) Inbound (delivered_notes place.number recorded c.args.flight flown.from c.args.cost) c.in_ok-push_inbound.ensures.out refl
     c.time.ensures.time c.in_ok-note_delivered.ensures.options (omega arith) (omega (arith, c.time.ensures.time, c.time.ensures.bound))
     (heard_short self.tap c.args.cost) (frame_of run.octets c.args.flight octets c.requires.run.octets c.in-Some-numbered.ensures)
     c.in_ok-note_delivered.ensures.few)

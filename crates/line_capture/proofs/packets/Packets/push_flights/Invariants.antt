@@ -7,7 +7,7 @@ abbrev pub invariant-loop-nth : goal.invariant-loop-nth
 invariant-loop-nth l =
     record {
       adds : (new : List ℕ)
-          → Adds l.self.out.items new (flights_packets l.self.tap (run_of l.run) l.fates l.place l.told l.nth (l.told.flights - l.nth))
-          → Adds l.fn.self.out.items new (flights_packets l.fn.self.tap (run_of l.run) l.fates l.place l.told 0 l.told.flights);
+          → Adds l.self.out.items new (flights_packets l.self.tap (run_of l.run) l.fates l.place l.recorded l.nth (l.recorded.flights - l.nth))
+          → Adds l.fn.self.out.items new (flights_packets l.fn.self.tap (run_of l.run) l.fates l.place l.recorded 0 l.recorded.flights);
       tap : l.self.tap ≡ l.fn.self.tap;
     }

@@ -6,9 +6,9 @@ pub returns-clause-place : goal.returns-clause-place
 returns-clause-place c =
     λ n.
     let place = c.requires.place in
-    let clock = clock_low c.args.told.now.act c.args.self.now.clock c.requires.act in
-    let since = since_low c.args.told.now.act c.args.self.now.since in
-    let injected = injected_low c.args.told.now.act c.args.self.now.injected in
+    let clock = clock_low c.args.recorded.now.act c.args.self.now.clock c.requires.act in
+    let since = since_low c.args.recorded.now.act c.args.self.now.since in
+    let injected = injected_low c.args.recorded.now.act c.args.self.now.injected in
     record {
       begun = omega arith;
       number = omega (arith, n);

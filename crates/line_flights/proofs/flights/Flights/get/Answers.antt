@@ -3,7 +3,7 @@ use Rattle.std.proofs.Common.{◌≡◌, ◌-◌, ◌<◌, Some, sym, ap, ◌∙
 use Rattle.std.specs.Prelude.{slice_get}
 use Rattle.std.proofs.lemmas.Option.{slice_get_within}
 use Rattle.line_flights.specs.Flown.{Flown}
-use Rattle.line_flights.specs.Keeping.{flight_of}
+use Rattle.line_flights.specs.KeptFlights.{flight_of}
 use Rattle.line_flights.proofs.FlightLists.{flight_at, none_at, item_at, in_flights}
 use Rattle.line_flights.proofs.flights.Flights.get.Goals as goal
 

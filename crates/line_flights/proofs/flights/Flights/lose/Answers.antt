@@ -4,7 +4,7 @@ use Rattle.std.specs.Prelude.{slice_get, slice_set}
 use Rattle.std.proofs.lemmas.Option.{slice_get_within}
 use Rattle.line_flights.specs.Flights.{Flight}
 use Rattle.line_flights.specs.Flown.{Flown, flight_in}
-use Rattle.line_flights.specs.Keeping.{flights_of}
+use Rattle.line_flights.specs.KeptFlights.{flights_of}
 use Rattle.line_flights.proofs.FlightLists.{count_of, item_at, in_flights, flights_lost, lost_so}
 use Rattle.line_flights.proofs.flights.Flights.lose.Goals as goal
 

@@ -4,7 +4,7 @@ use Rattle.octet_log.proofs.Lasts.{if_ok}
 use Rattle.line_flights.specs.declared.flights.Kept.{Kept}
 use Rattle.line_flights.specs.Flights.{flight_by}
 use Rattle.line_flights.specs.Flown.{Flown}
-use Rattle.line_flights.specs.Keeping.{flight_of, flights_of}
+use Rattle.line_flights.specs.KeptFlights.{flight_of, flights_of}
 use Rattle.line_flights.proofs.FlightLists.{count_of, flights_push}
 use Rattle.line_flights.proofs.flights.Flights.push.Goals as goal
 

@@ -4,7 +4,7 @@ use Rattle.std.specs.Prelude.{slice_index}
 use Rattle.std.proofs.lemmas.List.{map_push}
 use Rattle.plc_base.specs.Tags.{tag_octets}
 use Rattle.line_flights.specs.Flown.{Made}
-use Rattle.line_flights.specs.Spellings.{tag_of, AreSpelled}
+use Rattle.line_flights.specs.SpelledTags.{tag_of, AreSpelled}
 use Rattle.line_flights.proofs.TagSpellings.{spelling_of, spelled_push, tag_back}
 use Rattle.line_flights.proofs.made_tags.MadeTags.push.Goals as goal
 

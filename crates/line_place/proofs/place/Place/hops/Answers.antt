@@ -1,6 +1,6 @@
 use Rattle.std.proofs.Common.{◌≡◌, ℕ, ◌<◌, Option, None, length, ap, ◌∙◌, arith}
 use Rattle.std.proofs.lemmas.List.{length-replicate}
-use Rattle.line_place.proofs.Widening.{first_round, no_nodes}
+use Rattle.line_place.proofs.SearchRounds.{first_round, no_nodes}
 use Rattle.line_place.proofs.place.Place.hops.Goals as goal
 
 pub returns-then-nodes-eq0 : goal.returns-then-nodes-eq0

@@ -1,6 +1,6 @@
 use Rattle.std.proofs.Common.{get_or}
 use Rattle.std.proofs.lemmas.Option.{slice_get-get_or}
-use Rattle.line_place.proofs.Widening.{none_reached, front_begins, front_goes_on, front_ends}
+use Rattle.line_place.proofs.SearchRounds.{none_reached, front_begins, front_goes_on, front_ends}
 use Rattle.line_place.proofs.place.Place.widen.Goals as goal
 
 pub loop-a-init : goal.loop-a-init

@@ -1,5 +1,5 @@
 use Rattle.line_place.specs.Hops.{IsWider}
-use Rattle.line_place.proofs.Widening.{IsReachedBefore}
+use Rattle.line_place.proofs.SearchRounds.{IsReachedBefore}
 use Rattle.line_place.proofs.place.Place.widen.Given as goal
 
 abbrev pub invariant-loop-a : goal.invariant-loop-a

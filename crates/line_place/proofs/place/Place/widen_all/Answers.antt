@@ -1,5 +1,5 @@
 use Rattle.std.proofs.Common.{arith}
-use Rattle.line_place.proofs.Widening.{next_round, last_round, some_left, none_left}
+use Rattle.line_place.proofs.SearchRounds.{next_round, last_round, some_left, none_left}
 use Rattle.line_place.proofs.place.Place.widen_all.Goals as goal
 
 pub overflow_add-round : goal.overflow_add-round

@@ -1,7 +1,7 @@
 use Rattle.std.proofs.Common.{refl, sym, ap, subst, ◌∙◌, arith}
 use Rattle.std.proofs.Math.Numerals.{add-one}
 use Rattle.line_place.specs.Hops.{AllHavePaths}
-use Rattle.line_place.specs.Scattering.{spots_after, drawn_rows, tries_after}
+use Rattle.line_place.specs.ScatteredSpots.{spots_after, drawn_rows, tries_after}
 use Rattle.line_place.proofs.Tries.{none_at_first, none_more}
 use Rattle.line_place.proofs.scattering.Field.scatter.Goals as goal
 

@@ -1,5 +1,5 @@
 use Rattle.std.proofs.Common.{◌≡◌}
-use Rattle.line_place.specs.Scattering.{tries_after, NoneBefore}
+use Rattle.line_place.specs.ScatteredSpots.{tries_after, NoneBefore}
 use Rattle.line_place.proofs.scattering.Field.scatter.Given as goal
 
 abbrev pub invariant-loop-tries : goal.invariant-loop-tries

@@ -1,5 +1,5 @@
 use Rattle.std.proofs.Common.{◌≡◌}
-use Rattle.line_place.specs.Scattering.{spots_after, drawn_spots}
+use Rattle.line_place.specs.ScatteredSpots.{spots_after, drawn_spots}
 use Rattle.line_place.proofs.scattering.Field.spots.Given as goal
 
 abbrev pub invariant-loop-meter : goal.invariant-loop-meter

@@ -1,6 +1,6 @@
 use Rattle.std.proofs.Common.{◌≡◌, ◌+◌, arith}
 use Rattle.line_replay.specs.Drills.{activate}
-use Rattle.line_replay.proofs.Drilling.{each_none, each_more, each_all}
+use Rattle.line_replay.proofs.DrillLoops.{each_none, each_more, each_all}
 use Rattle.line_replay.proofs.drill.Drill.activate_all.Goals as goal
 
 pub loop-node-init : goal.loop-node-init

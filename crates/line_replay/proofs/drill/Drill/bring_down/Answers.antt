@@ -1,6 +1,6 @@
 use Rattle.std.proofs.Common.{◌≡◌, ◌+◌, min, arith}
 use Rattle.line_replay.specs.Drills.{bring}
-use Rattle.line_replay.proofs.Drilling.{each_none, each_more, each_all}
+use Rattle.line_replay.proofs.DrillLoops.{each_none, each_more, each_all}
 use Rattle.line_replay.proofs.drill.Drill.bring_down.Goals as goal
 
 pub loop-node-init : goal.loop-node-init

@@ -1,7 +1,7 @@
 use Rattle.std.proofs.Common.{◌+◌, ◌-◌, ◌∙◌, sym, ap, arith}
 use Rattle.line_events.specs.declared.event.TheConstants.{MAX_EVENTS}
 use Rattle.line_replay.specs.Drills.{Drilling, bring_round, drain}
-use Rattle.line_replay.proofs.Drilling.{all_drained, none_next, one_more, no_turns}
+use Rattle.line_replay.proofs.DrillLoops.{all_drained, none_next, one_more, no_turns}
 use Rattle.line_replay.proofs.drill.Drill.drain.Goals as goal
 
 pub returns-then-self-counts : goal.returns-then-self-counts

@@ -1,6 +1,6 @@
 use Rattle.std.proofs.Common.{◌≡◌, ◌+◌, ◌∙◌, ap, arith}
 use Rattle.line_replay.specs.Drills.{each, send, read}
-use Rattle.line_replay.proofs.Drilling.{each_none, each_more, each_all}
+use Rattle.line_replay.proofs.DrillLoops.{each_none, each_more, each_all}
 use Rattle.line_replay.proofs.drill.Drill.read.Goals as goal
 
 pub loop-node-init : goal.loop-node-init

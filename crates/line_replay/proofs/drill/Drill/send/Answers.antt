@@ -1,5 +1,5 @@
 use Rattle.std.proofs.Common.{◌∙◌}
-use Rattle.line_replay.proofs.Drilling.{says}
+use Rattle.line_replay.proofs.DrillLoops.{says}
 use Rattle.line_replay.proofs.drill.Drill.send.Goals as goal
 
 pub take-requires : goal.take-requires

@@ -1,6 +1,6 @@
 use Rattle.std.proofs.Common.{◌∙◌, sym, ap, arith}
 use Rattle.line_replay.specs.Drills.{Drilling, world_by}
-use Rattle.line_replay.proofs.Drilling.{not_after, is_after}
+use Rattle.line_replay.proofs.DrillLoops.{not_after, is_after}
 use Rattle.line_replay.proofs.drill.Drill.take.Goals as goal
 
 pub returns-then-counts-ge-MAX_EVENTS : goal.returns-then-counts-ge-MAX_EVENTS

@@ -1,7 +1,7 @@
 use Rattle.std.proofs.Common.{◌+◌, ◌++◌, arith}
 use Rattle.line_script.specs.Texts.{happened_text}
 use Rattle.line_replay.specs.Texts.{sent_text}
-use Rattle.line_replay.proofs.Turning.{event_taken, made_so}
+use Rattle.line_replay.proofs.EventTurns.{event_taken, made_so}
 use Rattle.line_replay.proofs.replay.Player.take_event.Goals as goal
 
 pub returns : goal.returns

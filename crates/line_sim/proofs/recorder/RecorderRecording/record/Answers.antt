@@ -1,7 +1,7 @@
 use Rattle.std.proofs.Common.{nat_lt, ◌∙◌, refl, sym, ap, arith}
 use Rattle.std.proofs.lemmas.Result.{err_from_is_err_and}
 use Rattle.line_events.specs.declared.happenings.Happenings.{Happenings}
-use Rattle.line_simulation.specs.Happenings.{facts_of}
+use Rattle.line_simulation.specs.Facts.{facts_of}
 use Rattle.line_simulation.specs.Recorders.{Taken}
 use Rattle.line_simulation.specs.declared.facts.Facts.{Facts}
 use Rattle.line_sim.specs.Recorders.{ordered_of}

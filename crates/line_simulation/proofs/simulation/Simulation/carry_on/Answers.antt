@@ -1,7 +1,7 @@
 use Rattle.std.proofs.Common.{Bool, ◌+◌, ◌-◌, ◌∙◌, ap, arith}
 use Rattle.line_simulation.specs.declared.turns.TheConstants.{MOST_WORK}
 use Rattle.line_simulation.specs.Simulations.{state_of}
-use Rattle.line_simulation.specs.Turning.{on_while, carried_on}
+use Rattle.line_simulation.specs.Turns.{on_while, carried_on}
 use Rattle.line_simulation.proofs.Loops.{carried_by, carried_stops, carried_all}
 use Rattle.line_simulation.proofs.simulation.Simulation.carry_on.Goals as goal
 

@@ -1,7 +1,7 @@
 use Rattle.std.proofs.Common.{◌≡◌, ◌-◌}
 use Rattle.line_simulation.specs.declared.turns.TheConstants.{MOST_WORK}
 use Rattle.line_simulation.specs.Simulations.{state_of}
-use Rattle.line_simulation.specs.Turning.{carried_on}
+use Rattle.line_simulation.specs.Turns.{carried_on}
 use Rattle.line_simulation.proofs.simulation.Simulation.carry_on.Given as goal
 
 abbrev pub invariant-loop-turn : goal.invariant-loop-turn

@@ -1,5 +1,5 @@
 use Rattle.std.proofs.Common.{◌≡◌, drop}
-use Rattle.line_simulation.specs.Endings.{delivered_each}
+use Rattle.line_simulation.specs.Arrivals.{delivered_each}
 use Rattle.line_simulation.specs.Simulations.{state_of}
 use Rattle.line_simulation.proofs.simulation.Simulation.deliver_all.Given as goal
 

@@ -1,7 +1,7 @@
 use Rattle.std.proofs.Common.{Bool, ◌+◌, ◌-◌, ◌∙◌, ap, arith}
 use Rattle.line_simulation.specs.declared.turns.TheConstants.{MOST_TURNS}
 use Rattle.line_simulation.specs.Simulations.{state_of}
-use Rattle.line_simulation.specs.Turning.{on_while, turns_done}
+use Rattle.line_simulation.specs.Turns.{on_while, turns_done}
 use Rattle.line_simulation.proofs.Loops.{turned_by, turned_stops, turned_all}
 use Rattle.line_simulation.proofs.simulation.Simulation.do_turns.Goals as goal
 

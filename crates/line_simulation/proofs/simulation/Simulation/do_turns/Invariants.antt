@@ -1,7 +1,7 @@
 use Rattle.std.proofs.Common.{◌≡◌, ◌-◌}
 use Rattle.line_simulation.specs.declared.turns.TheConstants.{MOST_TURNS}
 use Rattle.line_simulation.specs.Simulations.{state_of}
-use Rattle.line_simulation.specs.Turning.{turns_done}
+use Rattle.line_simulation.specs.Turns.{turns_done}
 use Rattle.line_simulation.proofs.simulation.Simulation.do_turns.Given as goal
 
 abbrev pub invariant-loop-turn : goal.invariant-loop-turn

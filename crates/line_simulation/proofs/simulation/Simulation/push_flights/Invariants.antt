@@ -1,5 +1,5 @@
 use Rattle.std.proofs.Common.{◌≡◌, ◌-◌}
-use Rattle.line_simulation.specs.Bringing.{with_flights}
+use Rattle.line_simulation.specs.Effects.{with_flights}
 use Rattle.line_simulation.specs.Simulations.{state_of}
 use Rattle.line_simulation.proofs.simulation.Simulation.push_flights.Given as goal
 

@@ -1,5 +1,5 @@
 use Rattle.std.proofs.Common.{◌≡◌, ◌-◌, drop, length}
-use Rattle.line_simulation.specs.Attacking.{with_releases}
+use Rattle.line_simulation.specs.Attacks.{with_releases}
 use Rattle.line_simulation.specs.Simulations.{state_of}
 use Rattle.line_simulation.proofs.simulation.Simulation.push_releases.Given as goal
 

@@ -1,6 +1,6 @@
 use Rattle.std.proofs.Common.{◌≡◌, drop}
 use Rattle.line_simulation.specs.Simulations.{state_of}
-use Rattle.line_simulation.specs.Turning.{incidents_put}
+use Rattle.line_simulation.specs.Turns.{incidents_put}
 use Rattle.line_simulation.proofs.simulation.Simulation.put_incidents.Given as goal
 
 abbrev pub invariant-loop-nth : goal.invariant-loop-nth

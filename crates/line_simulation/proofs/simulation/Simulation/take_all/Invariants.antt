@@ -1,5 +1,5 @@
 use Rattle.std.proofs.Common.{◌≡◌, ◌-◌, drop, length}
-use Rattle.line_simulation.specs.Endings.{all_brought}
+use Rattle.line_simulation.specs.Arrivals.{all_brought}
 use Rattle.line_simulation.specs.Simulations.{state_of}
 use Rattle.line_simulation.proofs.simulation.Simulation.take_all.Given as goal
 

@@ -1,6 +1,6 @@
 use Rattle.std.proofs.Common.{rules, ◌≡◌, ℕ, ◌+◌, ◌-◌, ◌∙◌, ap, arith}
 use Rattle.line_simulation.specs.Simulations.{state_of}
-use Rattle.line_simulation.specs.Stepping.{ticked}
+use Rattle.line_simulation.specs.Steps.{ticked}
 use Rattle.line_simulation.proofs.Loops.{ticked_goes, ticked_stops, ticked_all}
 use Rattle.line_simulation.proofs.simulation.Simulation.tick.Goals as goal
 

@@ -1,6 +1,6 @@
 use Rattle.std.proofs.Common.{◌≡◌, ◌-◌}
 use Rattle.line_simulation.specs.Simulations.{state_of}
-use Rattle.line_simulation.specs.Stepping.{ticked}
+use Rattle.line_simulation.specs.Steps.{ticked}
 use Rattle.line_simulation.proofs.simulation.Simulation.tick.Given as goal
 
 abbrev pub invariant-loop-turn : goal.invariant-loop-turn

@@ -1,7 +1,7 @@
 use Rattle.std.proofs.Common.{◌≡◌, true, false}
 use Rattle.std.specs.Prelude.{is_some}
-use Rattle.script_runs.specs.Takings.{event_taking}
-use Rattle.line_view.specs.Capturing.{Capturing, rules}
+use Rattle.script_runs.specs.TakenLines.{event_taking}
+use Rattle.line_view.specs.CaptureRuns.{CaptureRun, rules}
 use Rattle.line_view.specs.Recordings.{Recording}
 use Rattle.line_view.proofs.Captured.{entry_captured}
 use Rattle.line_view.proofs.Machines.{refused}
@@ -9,7 +9,7 @@ use Rattle.line_view.proofs.capture.CaptureRunMachine.step.Goals as goal
 
 pub returns-then-is_some : goal.returns-then-is_some
 returns-then-is_some c =
-    let m : Capturing = record {
+    let m : CaptureRun = record {
       wanted = c.self.inside.wanted;
       run = c.self.inside.run;
       injected = c.self.inside.injected.strings;
@@ -21,7 +21,7 @@ returns-then-is_some c =
 
 pub returns : goal.returns
 returns c =
-    let m : Capturing = record {
+    let m : CaptureRun = record {
       wanted = c.self.inside.wanted;
       run = c.self.inside.run;
       injected = c.self.inside.injected.strings;

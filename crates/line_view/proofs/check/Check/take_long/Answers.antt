@@ -1,6 +1,6 @@
 use Rattle.std.proofs.Common.{[], string_bytes}
 use Rattle.line_script.specs.declared.report.Reason.TheVariants as reasons
-use Rattle.line_view.specs.Checking.{Tells, long_finding}
+use Rattle.line_view.specs.CheckRuns.{Tells, long_finding}
 use Rattle.line_view.proofs.Turns.{turned, unwritten}
 use Rattle.line_view.proofs.check.Check.take_long.Goals as goal
 

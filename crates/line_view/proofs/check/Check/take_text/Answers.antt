@@ -1,5 +1,5 @@
 use Rattle.std.proofs.Common.{string_bytes}
-use Rattle.line_view.specs.Checking.{text_look}
+use Rattle.line_view.specs.CheckRuns.{text_look}
 use Rattle.line_view.proofs.Turns.{turned, unwritten}
 use Rattle.line_view.proofs.check.Check.take_text.Goals as goal
 

@@ -1,6 +1,6 @@
 use Rattle.std.proofs.Common.{string_bytes}
 use Rattle.line_script.specs.declared.report.Reason.TheVariants as reasons
-use Rattle.line_view.specs.Checking.{Tells, input_finding}
+use Rattle.line_view.specs.CheckRuns.{Tells, input_finding}
 use Rattle.line_view.proofs.Turns.{turned_stop, unwritten}
 use Rattle.line_view.proofs.check.Check.take_too_much.Goals as goal
 

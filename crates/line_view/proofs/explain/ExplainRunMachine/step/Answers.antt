@@ -1,23 +1,23 @@
 use Rattle.std.proofs.Common.{◌≡◌, true, false}
 use Rattle.std.specs.Prelude.{is_some}
-use Rattle.script_runs.specs.Takings.{event_taking}
-use Rattle.line_view.specs.Explaining.{Explaining, rules}
+use Rattle.script_runs.specs.TakenLines.{event_taking}
+use Rattle.line_view.specs.ExplainRuns.{ExplainRun, rules}
 use Rattle.line_view.specs.Recordings.{Recording}
-use Rattle.line_view.proofs.Explained.{entry_told}
+use Rattle.line_view.proofs.Explained.{entry_worded}
 use Rattle.line_view.proofs.Machines.{refused}
 use Rattle.line_view.proofs.explain.ExplainRunMachine.step.Goals as goal
 
 pub returns-then-is_some : goal.returns-then-is_some
 returns-then-is_some c =
-    let m : Explaining = record { chosen = c.self.inside.chosen; run = c.self.inside.run; told = c.self.inside.teller } in
+    let m : ExplainRun = record { chosen = c.self.inside.chosen; run = c.self.inside.run; worded = c.self.inside.run_sentences } in
     let there : is_some c.in_ok-refusal.refusal ≡ true = cc in
     rw (← c.self.view_is) (refused rules (λ (run : Recording). record m { run = run }) c.args.row m.run c.step.new.self c.args.event.now
     (event_taking c.self.inside.run.world c.args.event.now) c.in_ok-refusal.refusal c.in_ok-refusal.ensures there)
 
 pub returns : goal.returns
 returns c =
-    let m : Explaining = record { chosen = c.self.inside.chosen; run = c.self.inside.run; told = c.self.inside.teller } in
+    let m : ExplainRun = record { chosen = c.self.inside.chosen; run = c.self.inside.run; worded = c.self.inside.run_sentences } in
     let none : is_some c.in_ok-refusal.refusal ≡ false = cc in
-    rw (← c.self.view_is) (entry_told c.args.row m c.args.event.now c.step.new.self c.tell.new.run c.tell.new.self
-    (event_taking c.self.inside.run.world c.args.event.now) c.in_ok-refusal.refusal c.in_ok-refusal.ensures none c.in_ok-tell.ensures.sentence
-    c.in_ok-tell.ensures.same)
+    rw (← c.self.view_is) (entry_worded c.args.row m c.args.event.now c.step.new.self c.add_sentence.new.run c.add_sentence.new.self
+    (event_taking c.self.inside.run.world c.args.event.now) c.in_ok-refusal.refusal c.in_ok-refusal.ensures none c.in_ok-add_sentence.ensures.sentence
+    c.in_ok-add_sentence.ensures.same)

@@ -1,5 +1,5 @@
 use Rattle.std.proofs.Common.{◌≡◌}
-use Rattle.line_view.specs.Paging.{looked_at_all}
+use Rattle.line_view.specs.PageRuns.{looked_at_all}
 use Rattle.line_view.proofs.page.Page.look_at_all.Given as goal
 
 -- the nodes so far

@@ -7,8 +7,8 @@ pub returns : goal.returns
 returns c =
     let r : Recording = record {
       world = c.self.inside.world;
-      events = c.self.inside.tale.events.items;
-      flights = c.self.inside.tale.flights.items;
+      events = c.self.inside.run_record.events.items;
+      flights = c.self.inside.run_record.flights.items;
       more = c.self.inside.more.items;
       counters = c.self.inside.counters;
       euis = c.self.inside.euis.items;

@@ -1,7 +1,7 @@
 -- An acknowledgement goes out, if one is due.
 use Rattle.std.proofs.Common.{refl}
 use Rattle.line_world.specs.Lines.{world_of}
-use Rattle.line_world.proofs.Acknowledging.{none_due_at, one_due_at}
+use Rattle.line_world.proofs.ReplyChecks.{none_due_at, one_due_at}
 use Rattle.line_world.proofs.line.Line.acknowledged.Goals as goal
 
 pub returns-in_default-clause-acknowledges : goal.returns-in_default-clause-acknowledges

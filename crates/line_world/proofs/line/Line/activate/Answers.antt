@@ -13,7 +13,7 @@ use Rattle.line_rules.specs.Answers.{ordered_word}
 use Rattle.line_rules.specs.Steps.{activate, by_coordinator, happenings}
 use Rattle.line_rules.specs.Worlds.{World}
 use Rattle.line_world.specs.Lines.{world_of}
-use Rattle.line_world.proofs.Taking.{IsThere, steps_as, begun, is_there, node_acted, node_answered, not_found, has_coordinator, unreserved, taking}
+use Rattle.line_world.proofs.EventSteps.{IsThere, steps_as, begun, is_there, node_acted, node_answered, not_found, has_coordinator, unreserved, taking}
 use Rattle.line_world.proofs.Orders.{Runs, about_node, first_there, is_some_meter, of_found, reserved, still_runs, said_with}
 use Rattle.line_world.proofs.line.Line.activate.Goals as goal
 

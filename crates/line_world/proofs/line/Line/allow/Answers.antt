@@ -15,7 +15,7 @@ use Rattle.line_events.specs.declared.event.StepFault.TheVariants as faults
 use Rattle.line_rules.specs.Steps.{allow, allowed, happenings, psk_of}
 use Rattle.line_rules.specs.Worlds.{World}
 use Rattle.line_world.specs.Lines.{world_of}
-use Rattle.line_world.proofs.Taking.{steps_as}
+use Rattle.line_world.proofs.EventSteps.{steps_as}
 use Rattle.line_world.proofs.Orders.{IsMeter, Runs, about_meter, first_there, has_allowed, is_meter, of_found, within_line, meter_not_found, meter_begun}
 use Rattle.line_world.proofs.line.Line.allow.Goals as goal
 

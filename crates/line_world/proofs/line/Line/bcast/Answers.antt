@@ -14,11 +14,11 @@ use Rattle.line_rules.specs.Further.{bcast, beside_at, broadcast_sent, reaches}
 use Rattle.line_rules.specs.Logs.{LogsKept}
 use Rattle.line_rules.specs.Worlds.{World, nothing_further}
 use Rattle.line_world.specs.Lines.{world_of}
-use Rattle.line_world.specs.Reaching.{ReachedFirst}
+use Rattle.line_world.specs.FurtherOutcomes.{ReachedFirst}
 use Rattle.line_world.proofs.Besides.{node_reached}
-use Rattle.line_world.proofs.Calling.{bcast_at, beside_found, log_there}
+use Rattle.line_world.proofs.FurtherCalls.{bcast_at, beside_found, log_there}
 use Rattle.line_world.proofs.Orders.{Runs, reserved, still_runs, said_with, within_line}
-use Rattle.line_world.proofs.Taking.{IsThere, has_coordinator, is_there, not_found, steps_as, unreserved}
+use Rattle.line_world.proofs.EventSteps.{IsThere, has_coordinator, is_there, not_found, steps_as, unreserved}
 use Rattle.line_world.proofs.line.Line.bcast.Goals as goal
 
 pub returns-in_err-number : goal.returns-in_err-number

@@ -10,7 +10,7 @@ use Rattle.node_rules.specs.NodeSteps.{acts, changing}
 use Rattle.line_events.specs.declared.event.Answer.TheVariants as answers
 use Rattle.line_rules.specs.Steps.{breaks, breaks_by, happenings, trace_of}
 use Rattle.line_world.specs.Lines.{world_of}
-use Rattle.line_world.proofs.Taking.{steps_as, begun, at_node, is_there, holds_there, node_said, only_ran, not_found, second_not_found, has_coordinator}
+use Rattle.line_world.proofs.EventSteps.{steps_as, begun, at_node, is_there, holds_there, node_said, only_ran, not_found, second_not_found, has_coordinator}
 use Rattle.line_world.proofs.line.Line.breaks.Goals as goal
 
 pub returns-in_err-number : goal.returns-in_err-number

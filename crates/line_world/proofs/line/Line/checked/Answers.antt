@@ -10,7 +10,7 @@ use Rattle.line_rules.specs.Further.{beside_at}
 use Rattle.line_world.specs.Arrivals.{Acknowledges, left_of, outcome_of_checked, outcome_of_further, outcome_of_unbelieved, reception_happenings}
 use Rattle.line_world.specs.declared.nodes.reception.Reception.{Reception}
 use Rattle.line_world.specs.Lines.{world_of}
-use Rattle.line_world.proofs.Calling.{beside_found}
+use Rattle.line_world.proofs.FurtherCalls.{beside_found}
 use Rattle.line_world.proofs.CheckedFrames.{beside_then, bounds_then, checked_bounds, checked_events, checked_then, events_then, joined_then, room_then}
 use Rattle.line_world.proofs.CheckedFrames.{unacknowledged_then}
 use Rattle.line_world.proofs.HeardFurther.{further_checked, further_unbelieved, named_so}

@@ -9,8 +9,8 @@ use Rattle.line_rules.specs.Worlds.{World}
 use Rattle.line_world.specs.Bounds.{IsBounded}
 use Rattle.line_world.specs.Lines.{world_of}
 use Rattle.line_world.specs.declared.line.Line.{Line}
-use Rattle.line_world.proofs.Settings.{in_setup_is, bounded_setup}
-use Rattle.line_world.proofs.Taking.{refused, is_taken_so}
+use Rattle.line_world.proofs.SetupSteps.{in_setup_is, bounded_setup}
+use Rattle.line_world.proofs.EventSteps.{refused, is_taken_so}
 use Rattle.line_world.proofs.line.Line.checks.Goals as goal
 
 pub returns-then-not-takes_setup : goal.returns-then-not-takes_setup

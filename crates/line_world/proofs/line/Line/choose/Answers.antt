@@ -12,14 +12,14 @@ use Rattle.line_events.specs.declared.event.StepFault.{StepFault}
 use Rattle.line_rules.specs.Further.{beside_at, choose, chooses_by}
 use Rattle.line_rules.specs.Steps.{psk_of, running_world}
 use Rattle.line_rules.specs.Worlds.{World}
-use Rattle.line_world.specs.Discovering.{joins_in}
+use Rattle.line_world.specs.Discovery.{joins_in}
 use Rattle.line_world.specs.Lines.{world_of}
 use Rattle.line_world.specs.Steps.{Steps}
-use Rattle.line_world.proofs.Calling.{beside_found}
+use Rattle.line_world.proofs.FurtherCalls.{beside_found}
 use Rattle.line_world.proofs.Discoveries.{address_in, below_in, choice_halted, choice_joined, choice_joins, choice_nobody, choice_refused, choose_at, joined_in}
 use Rattle.line_world.proofs.Discoveries.{memory_in, none_in}
 use Rattle.line_world.proofs.Orders.{IsMeter, Runs, is_meter, meter_begun, meter_not_found, of_found, reserved, still_runs}
-use Rattle.line_world.proofs.Taking.{steps_as, unreserved}
+use Rattle.line_world.proofs.EventSteps.{steps_as, unreserved}
 use Rattle.line_world.proofs.line.Line.choose.Goals as goal
 
 pub returns-in_err-number : goal.returns-in_err-number

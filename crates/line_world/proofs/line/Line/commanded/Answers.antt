@@ -10,11 +10,11 @@ use Rattle.line_rules.specs.Further.{beside_at}
 use Rattle.line_rules.specs.Steps.{hearing_step}
 use Rattle.line_world.specs.Arrivals.{outcome_of_command as heard_by_command}
 use Rattle.line_world.specs.Lines.{world_of}
-use Rattle.line_world.specs.Reaching.{command_of}
-use Rattle.line_world.specs.Receiving.{Received}
+use Rattle.line_world.specs.FurtherOutcomes.{command_of}
+use Rattle.line_world.specs.Receptions.{Received}
 use Rattle.line_world.specs.Steps.{Steps}
 use Rattle.line_world.proofs.Arrivals.{at_node_after, at_some}
-use Rattle.line_world.proofs.Calling.{beside_found, command_bounded, command_log, command_room}
+use Rattle.line_world.proofs.FurtherCalls.{beside_found, command_bounded, command_log, command_room}
 use Rattle.line_world.proofs.HeardCommands.{was_commanded}
 use Rattle.line_world.proofs.line.Line.commanded.Goals as goal
 

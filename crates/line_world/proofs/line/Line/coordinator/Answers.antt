@@ -7,8 +7,8 @@ use Rattle.line_rules.specs.Worlds.{World}
 use Rattle.line_rules.specs.Steps.{happenings, set_up}
 use Rattle.line_world.specs.declared.line.Line.{Line}
 use Rattle.line_world.specs.Lines.{world_of}
-use Rattle.line_world.proofs.Taking.{refused, out_of_memory}
-use Rattle.line_world.proofs.Settings.{had_begun, first_made, went_well, makes_first, went_badly}
+use Rattle.line_world.proofs.EventSteps.{refused, out_of_memory}
+use Rattle.line_world.proofs.SetupSteps.{had_begun, first_made, went_well, makes_first, went_badly}
 use Rattle.line_world.proofs.line.Line.coordinator.Goals as goal
 
 pub returns-then-has_begun : goal.returns-then-has_begun

@@ -7,7 +7,7 @@ use Rattle.node_rules.specs.NodeSteps.{stays}
 use Rattle.line_events.specs.declared.event.Answer.TheVariants as answers
 use Rattle.line_rules.specs.Steps.{cut}
 use Rattle.line_world.specs.Lines.{world_of}
-use Rattle.line_world.proofs.Taking.{steps_as, begun, at_node, is_there, node_said, not_found, has_coordinator}
+use Rattle.line_world.proofs.EventSteps.{steps_as, begun, at_node, is_there, node_said, not_found, has_coordinator}
 use Rattle.line_world.proofs.line.Line.cut.Goals as goal
 
 pub returns-in_err-number : goal.returns-in_err-number

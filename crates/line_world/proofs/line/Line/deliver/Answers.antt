@@ -8,13 +8,13 @@ use Rattle.line_events.specs.declared.event.StepFault.TheVariants as faults
 use Rattle.line_rules.specs.Worlds.{World}
 use Rattle.line_rules.specs.Further.{delivers}
 use Rattle.line_world.specs.Bounds.{IsBounded}
-use Rattle.line_world.specs.Finding.{found}
+use Rattle.line_world.specs.NamedNodes.{found}
 use Rattle.line_world.specs.Lines.{world_of}
 use Rattle.line_world.specs.Steps.{Steps}
-use Rattle.line_world.proofs.Taking.{not_found, steps_as, unreserved}
+use Rattle.line_world.proofs.EventSteps.{not_found, steps_as, unreserved}
 use Rattle.line_world.proofs.Arrivals.{Flies, brings_octets, came_discovery, came_to, deliver_taken, flies, flies_none, found_still, no_flight, none_copied}
 use Rattle.line_world.proofs.Arrivals.{some_copied, still_bounded, still_logged, still_many, still_within, delivers as delivers_octets}
-use Rattle.line_world.proofs.Comings.{discovery_gets, flight_brings}
+use Rattle.line_world.proofs.ArrivedOctets.{discovery_gets, flight_brings}
 use Rattle.line_world.proofs.line.Line.deliver.Goals as goal
 
 pub returns-in_err-number-clause-steps : goal.returns-in_err-number-clause-steps

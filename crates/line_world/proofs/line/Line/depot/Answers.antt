@@ -7,8 +7,8 @@ use Rattle.line_events.specs.declared.event.Answer.TheVariants as answers
 use Rattle.line_rules.specs.Steps.{depot, happenings}
 use Rattle.line_world.specs.declared.line.Line.{Line}
 use Rattle.line_world.specs.Lines.{world_of}
-use Rattle.line_world.proofs.Taking.{is_there, refused}
-use Rattle.line_world.proofs.Settings.{no_setup, depot_first, depot_joined, depot_not_granted, depot_granted, as_long, no_such_node}
+use Rattle.line_world.proofs.EventSteps.{is_there, refused}
+use Rattle.line_world.proofs.SetupSteps.{no_setup, depot_first, depot_joined, depot_not_granted, depot_granted, as_long, no_such_node}
 use Rattle.line_world.proofs.line.Line.depot.Goals as goal
 
 pub returns-then-not-takes_setup : goal.returns-then-not-takes_setup

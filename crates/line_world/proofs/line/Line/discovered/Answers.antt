@@ -7,11 +7,11 @@ use Rattle.reach_rules.specs.Beacons.{hear_discovery_in}
 use Rattle.line_rules.specs.Answers.{discovery_word}
 use Rattle.line_rules.specs.Further.{beacon_taken, beside_at}
 use Rattle.line_rules.specs.Steps.{running_world}
-use Rattle.line_world.specs.Discovering.{discovered_by, discovered_in, discovers_in}
+use Rattle.line_world.specs.Discovery.{discovered_by, discovered_in, discovers_in}
 use Rattle.line_world.specs.Lines.{world_of}
 use Rattle.line_world.specs.Steps.{Steps}
 use Rattle.line_world.proofs.Discoveries.{at_number, by_node, discovery_stays, memory_in}
-use Rattle.line_world.proofs.Taking.{steps_as}
+use Rattle.line_world.proofs.EventSteps.{steps_as}
 use Rattle.line_world.proofs.line.Line.discovered.Goals as goal
 
 pub returns-in-None : goal.returns-in-None

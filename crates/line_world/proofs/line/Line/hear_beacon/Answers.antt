@@ -7,7 +7,7 @@ use Rattle.node_rules.specs.Memory.{Node, node_address}
 use Rattle.reach_rules.specs.ReachingNodes.{Beside}
 use Rattle.line_rules.specs.Further.{beside_at}
 use Rattle.line_events.specs.declared.event.Answer.TheVariants as answers
-use Rattle.line_world.specs.Discovering.{HearsBeacon, TakesBeacon}
+use Rattle.line_world.specs.Discovery.{HearsBeacon, TakesBeacon}
 use Rattle.line_world.specs.Lines.{world_of}
 use Rattle.line_world.proofs.Discoveries.{address_in, at_number, beacon_elsewhere, beacon_joined, beacon_own, beacon_taken_in, beside_has, by_memory}
 use Rattle.line_world.proofs.line.Line.hear_beacon.Goals as goal

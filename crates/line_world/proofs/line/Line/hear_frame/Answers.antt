@@ -4,7 +4,7 @@ use Rattle.std.specs.Prelude.{IfSome}
 use Rattle.pan_discovery.specs.declared.message.Discovery.{Discovery}
 use Rattle.pan_discovery.specs.declared.message.Discovery.TheVariants as discoveries
 use Rattle.node_rules.specs.Memory.{Memory, Node}
-use Rattle.line_world.specs.Discovering.{HearsBeacon, discovers_in}
+use Rattle.line_world.specs.Discovery.{HearsBeacon, discovers_in}
 use Rattle.line_world.specs.Lines.{world_of}
 use Rattle.line_world.specs.Steps.{Steps}
 use Rattle.line_world.proofs.Discoveries.{at_number, beacon_counts, by_memory}

@@ -12,7 +12,7 @@ use Rattle.reach_rules.specs.Beacons.{cost_to_coordinator, hear_request}
 use Rattle.line_rules.specs.Answers.{discovery_word}
 use Rattle.line_rules.specs.Further.{beacon_taken, beside_at}
 use Rattle.line_rules.specs.Steps.{running_world}
-use Rattle.line_world.specs.Discovering.{discovers_in, flies_in}
+use Rattle.line_world.specs.Discovery.{discovers_in, flies_in}
 use Rattle.line_world.specs.Lines.{world_of}
 use Rattle.line_world.specs.Steps.{Steps}
 use Rattle.line_world.proofs.Discoveries.{address_in, at_number, by_memory, cost_in, discovery_sends, discovery_stays, request_answered, request_elsewhere}

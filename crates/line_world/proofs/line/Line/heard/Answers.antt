@@ -6,7 +6,7 @@ use Rattle.node_rules.specs.Memory.{Node}
 use Rattle.node_rules.specs.NodeSteps.{NodeStep}
 use Rattle.line_rules.specs.Answers.{Reception}
 use Rattle.line_rules.specs.Steps.{hearing_step}
-use Rattle.line_world.specs.Receiving.{Received}
+use Rattle.line_world.specs.Receptions.{Received}
 use Rattle.line_world.specs.Arrivals.{outcome_of_hearing}
 use Rattle.line_world.specs.Lines.{world_of}
 use Rattle.line_world.specs.Steps.{Steps}

@@ -2,10 +2,10 @@
 use Rattle.std.proofs.Common.{◌∙◌, Option, Some, false, sym, ap}
 use Rattle.mesh_header.specs.declared.unit.Unit.{Unit}
 use Rattle.node_rules.specs.Ciphers.{network}
-use Rattle.reach_rules.specs.Receiving.{command_on}
+use Rattle.reach_rules.specs.FurtherReceptions.{command_on}
 use Rattle.line_world.specs.Arrivals.{outcome_of_further, outcome_of_hearing, outcome_of_command as heard_by_command}
 use Rattle.line_world.specs.Lines.{world_of}
-use Rattle.line_world.specs.Reaching.{command_of}
+use Rattle.line_world.specs.FurtherOutcomes.{command_of}
 use Rattle.line_world.proofs.HeardFurther.{further_command, further_plain, named_so}
 use Rattle.line_world.proofs.line.Line.heard_further.Goals as goal
 

@@ -4,9 +4,9 @@ use Rattle.std.proofs.lemmas.Result.{err_from_is_err_and}
 use Rattle.line_events.specs.declared.event.StepFault.{StepFault}
 use Rattle.line_rules.specs.Further.{injects}
 use Rattle.line_world.specs.Lines.{world_of}
-use Rattle.line_world.proofs.Taking.{not_found, unreserved}
+use Rattle.line_world.proofs.EventSteps.{not_found, unreserved}
 use Rattle.line_world.proofs.Arrivals.{brings_octets, came_discovery, came_to, found_still, inject_taken, still_bounded, still_logged, still_many, still_within}
-use Rattle.line_world.proofs.Comings.{discovery_gets, script_brings}
+use Rattle.line_world.proofs.ArrivedOctets.{discovery_gets, script_brings}
 use Rattle.line_world.proofs.line.Line.inject.Goals as goal
 
 pub returns-in_err-number-clause-steps : goal.returns-in_err-number-clause-steps

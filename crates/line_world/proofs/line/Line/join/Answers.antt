@@ -16,7 +16,7 @@ use Rattle.line_rules.specs.Steps.{node_outcome, identity, join, joins_by, on_no
 use Rattle.line_rules.specs.Worlds.{World}
 use Rattle.line_world.specs.Lines.{world_of}
 use Rattle.line_world.specs.Steps.{has_address}
-use Rattle.line_world.proofs.Taking.{IsThere, steps_as, begun, at_node, is_there, node_acted, unreserved, taking, addressed}
+use Rattle.line_world.proofs.EventSteps.{IsThere, steps_as, begun, at_node, is_there, node_acted, unreserved, taking, addressed}
 use Rattle.line_world.proofs.Orders.{IsMeter, Runs, as_found, at_meter, is_meter, of_found, only_said, reserved, said_with, within_line, meter_not_found}
 use Rattle.line_world.proofs.Orders.{meter_begun, agent_not_found}
 use Rattle.line_world.proofs.line.Line.join.Goals as goal

@@ -1,6 +1,6 @@
 -- A meter joins by an agent.
 use Rattle.std.proofs.Common.{true, Ok}
-use Rattle.line_world.specs.Discovering.{joins_in}
+use Rattle.line_world.specs.Discovery.{joins_in}
 use Rattle.line_world.specs.Lines.{world_of}
 use Rattle.line_world.specs.Steps.{Steps}
 use Rattle.line_world.proofs.Discoveries.{by_key, joins_reported, with_agent}

@@ -1,5 +1,5 @@
 -- The coordinator shuts a meter out.
-use Rattle.line_world.proofs.Taking.{unreserved}
+use Rattle.line_world.proofs.EventSteps.{unreserved}
 use Rattle.std.proofs.Common.{Err, true, refl, ap, ◌∙◌}
 use Rattle.std.proofs.lemmas.Result.{err_from_is_err_and}
 use Rattle.node_rules.specs.Ciphers.{network}

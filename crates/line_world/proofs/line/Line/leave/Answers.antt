@@ -8,7 +8,7 @@ use Rattle.node_rules.specs.NodeSteps.{acts}
 use Rattle.line_rules.specs.Answers.{leave_word}
 use Rattle.line_rules.specs.Steps.{happenings, leave}
 use Rattle.line_world.specs.Lines.{world_of}
-use Rattle.line_world.proofs.Taking.{steps_as, begun, node_answered}
+use Rattle.line_world.proofs.EventSteps.{steps_as, begun, node_answered}
 use Rattle.line_world.proofs.Orders.{at_meter, is_meter, meter_not_found, meter_begun}
 use Rattle.line_world.proofs.line.Line.leave.Goals as goal
 

@@ -9,7 +9,7 @@ use Rattle.line_rules.specs.Steps.{happenings, lose, running_world, trace_of}
 use Rattle.line_world.specs.Bounds.{IsBounded}
 use Rattle.line_world.specs.Lines.{world_of}
 use Rattle.line_world.specs.Steps.{Steps}
-use Rattle.line_world.proofs.Taking.{steps_as, unbegun, begun, is_taken_so, bounded_by, refused}
+use Rattle.line_world.proofs.EventSteps.{steps_as, unbegun, begun, is_taken_so, bounded_by, refused}
 use Rattle.line_world.proofs.Arrivals.{flying, lost_now, not_flying, not_lost_now}
 use Rattle.line_world.proofs.line.Line.lose.Goals as goal
 

@@ -7,8 +7,8 @@ use Rattle.line_rules.specs.Worlds.{World}
 use Rattle.line_rules.specs.Steps.{happenings, set_up}
 use Rattle.line_world.specs.declared.line.Line.{Line}
 use Rattle.line_world.specs.Lines.{world_of}
-use Rattle.line_world.proofs.Taking.{refused, out_of_memory}
-use Rattle.line_world.proofs.Settings.{meter_late, meter_full, meter_known, meter_made, went_well, makes_meter, went_badly}
+use Rattle.line_world.proofs.EventSteps.{refused, out_of_memory}
+use Rattle.line_world.proofs.SetupSteps.{meter_late, meter_full, meter_known, meter_made, went_well, makes_meter, went_badly}
 use Rattle.line_world.proofs.line.Line.meter.Goals as goal
 
 pub returns-then-not-takes_setup : goal.returns-then-not-takes_setup

@@ -5,7 +5,7 @@ use Rattle.std.proofs.lemmas.Result.{err_from_is_err_and}
 use Rattle.std.specs.Prelude.{IfSome, slice_get}
 use Rattle.node_rules.specs.declared.refusal.PresetFault.{PresetFault}
 use Rattle.node_rules.specs.Calls as calls
-use Rattle.node_rules.specs.Carrying.{nothing}
+use Rattle.node_rules.specs.CarriedPlans.{nothing}
 use Rattle.node_rules.specs.Ciphers.{network}
 use Rattle.node_rules.specs.Memory.{Node}
 use Rattle.node_rules.specs.NodeSteps.{NodeStep, acts, of_station}
@@ -16,9 +16,9 @@ use Rattle.line_rules.specs.Steps.{near, happenings, set_up}
 use Rattle.line_world.specs.declared.line.Line.{Line}
 use Rattle.line_world.specs.Lines.{world_of}
 use Rattle.line_world.specs.Steps.{Steps}
-use Rattle.line_world.proofs.Taking.{is_there, refused}
-use Rattle.line_world.proofs.Settings.{no_setup, near_first, near_second, have_addresses, near_itself, near_full, near_done, near_long, no_such_node}
-use Rattle.line_world.proofs.Settings.{no_such_second}
+use Rattle.line_world.proofs.EventSteps.{is_there, refused}
+use Rattle.line_world.proofs.SetupSteps.{no_setup, near_first, near_second, have_addresses, near_itself, near_full, near_done, near_long, no_such_node}
+use Rattle.line_world.proofs.SetupSteps.{no_such_second}
 use Rattle.line_world.proofs.line.Line.near.Goals as goal
 
 pub returns-then-not-takes_setup : goal.returns-then-not-takes_setup

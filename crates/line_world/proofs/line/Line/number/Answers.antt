@@ -9,8 +9,8 @@ use Rattle.line_events.specs.declared.event.Answer.TheVariants as answers
 use Rattle.line_rules.specs.Steps.{happenings}
 use Rattle.line_world.specs.declared.line.Line.{Line}
 use Rattle.line_world.specs.Lines.{world_of}
-use Rattle.line_world.proofs.Taking.{is_there, refused}
-use Rattle.line_world.proofs.Settings.{no_setup, value_set, stays_uncut, no_such_node}
+use Rattle.line_world.proofs.EventSteps.{is_there, refused}
+use Rattle.line_world.proofs.SetupSteps.{no_setup, value_set, stays_uncut, no_such_node}
 use Rattle.line_world.proofs.line.Line.number.Goals as goal
 
 pub returns-then-not-takes_setup : goal.returns-then-not-takes_setup

@@ -6,7 +6,7 @@ use Rattle.node_rules.specs.Ciphers.{network}
 use Rattle.node_rules.specs.MemoryDrafts.{in_memory}
 use Rattle.node_rules.specs.Memory.{Memory, Node, node_address}
 use Rattle.reach_rules.specs.declared.refusal.AskRefusal.TheVariants as asks
-use Rattle.reach_rules.specs.PathAsking.{ask_path}
+use Rattle.reach_rules.specs.PathRequests.{ask_path}
 use Rattle.reach_rules.specs.ReachingNodes.{Beside, Reaching}
 use Rattle.line_events.specs.declared.event.StepFault.{StepFault}
 use Rattle.line_rules.specs.Answers.{ask_word}
@@ -16,12 +16,12 @@ use Rattle.line_world.specs.Lines.{world_of}
 use Rattle.line_events.specs.declared.event.Answer.TheVariants as answers
 use Rattle.line_rules.specs.Steps.{happenings, trace_of}
 use Rattle.line_world.specs.Steps.{has_address}
-use Rattle.line_world.specs.Reaching.{ReachedFirst}
+use Rattle.line_world.specs.FurtherOutcomes.{ReachedFirst}
 use Rattle.line_world.proofs.Besides.{node_reached}
-use Rattle.line_world.proofs.Calling.{beside_found, path_at}
+use Rattle.line_world.proofs.FurtherCalls.{beside_found, path_at}
 use Rattle.line_world.proofs.Orders.{Runs, reserved, still_runs, said_with, within_line}
-use Rattle.line_world.proofs.Taking.{IsThere, addressed, has_coordinator, is_there, not_found, only_ran, second_not_found, steps_as, taking, holds_there}
-use Rattle.line_world.proofs.Taking.{unreserved}
+use Rattle.line_world.proofs.EventSteps.{IsThere, addressed, has_coordinator, is_there, not_found, only_ran, second_not_found, steps_as, taking, holds_there}
+use Rattle.line_world.proofs.EventSteps.{unreserved}
 use Rattle.line_world.proofs.line.Line.path.Goals as goal
 
 pub returns-in_err-from : goal.returns-in_err-from

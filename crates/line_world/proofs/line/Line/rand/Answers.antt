@@ -8,7 +8,7 @@ use Rattle.node_rules.specs.NodeSteps.{acts}
 use Rattle.line_rules.specs.Answers.{random_word}
 use Rattle.line_rules.specs.Steps.{happenings, rand}
 use Rattle.line_world.specs.Lines.{world_of}
-use Rattle.line_world.proofs.Taking.{steps_as, begun, at_node, is_there, node_answered, not_found, has_coordinator}
+use Rattle.line_world.proofs.EventSteps.{steps_as, begun, at_node, is_there, node_answered, not_found, has_coordinator}
 use Rattle.line_world.proofs.line.Line.rand.Goals as goal
 
 pub returns-in_err-number : goal.returns-in_err-number

@@ -8,7 +8,7 @@ use Rattle.line_events.specs.declared.event.Answer.TheVariants as answers
 use Rattle.line_rules.specs.Answers.{ordered_word}
 use Rattle.line_rules.specs.Steps.{happenings, rekey}
 use Rattle.line_world.specs.Lines.{world_of}
-use Rattle.line_world.proofs.Taking.{steps_as, unbegun, node_answered, refused}
+use Rattle.line_world.proofs.EventSteps.{steps_as, unbegun, node_answered, refused}
 use Rattle.line_world.proofs.Orders.{Runs, by_first, first_there}
 use Rattle.line_world.proofs.line.Line.rekey.Goals as goal
 

@@ -2,7 +2,7 @@
 use Rattle.std.proofs.Common.{◌≡◌, ◌∙◌, ◌<◌, ℕ, List, length, Err, Ok, false, ap, refl, subst, sym}
 use Rattle.std.specs.Prelude.{IfSome, slice_get, slice_set}
 use Rattle.std.proofs.lemmas.Result.{err_from_is_err_and}
-use Rattle.node_rules.specs.Carrying.{nothing}
+use Rattle.node_rules.specs.CarriedPlans.{nothing}
 use Rattle.node_rules.specs.Ciphers.{network}
 use Rattle.node_rules.specs.Memory.{Node}
 use Rattle.reach_rules.specs.ReachingNodes.{Beside}
@@ -14,7 +14,7 @@ use Rattle.line_world.specs.NodeOutcomes.{Did}
 use Rattle.line_world.specs.Lines.{world_of}
 use Rattle.line_world.specs.Steps.{Steps}
 use Rattle.line_world.proofs.Besides.{log_read, restart_is, steps_beside}
-use Rattle.line_world.proofs.Taking.{steps_as, begun, at_node, is_there, node_said, not_found, has_coordinator}
+use Rattle.line_world.proofs.EventSteps.{steps_as, begun, at_node, is_there, node_said, not_found, has_coordinator}
 use Rattle.line_world.proofs.line.Line.restart.Goals as goal
 
 pub returns-in_err-number : goal.returns-in_err-number

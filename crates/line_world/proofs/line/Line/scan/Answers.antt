@@ -13,12 +13,12 @@ use Rattle.line_rules.specs.Answers.{scan_word}
 use Rattle.line_rules.specs.Further.{beside_at, scan, scanning, scans_by, set_beside}
 use Rattle.line_rules.specs.Steps.{running_world}
 use Rattle.line_rules.specs.Worlds.{World}
-use Rattle.line_world.specs.Discovering.{flies_in}
+use Rattle.line_world.specs.Discovery.{flies_in}
 use Rattle.line_world.specs.Lines.{world_of}
-use Rattle.line_world.proofs.Calling.{beside_found}
+use Rattle.line_world.proofs.FurtherCalls.{beside_found}
 use Rattle.line_world.proofs.Discoveries.{address_in, discovery_sends, discovery_stays, joined_in, memory_in, none_in, scan_at, scan_begins, scan_joined}
 use Rattle.line_world.proofs.Orders.{IsMeter, Runs, is_meter, meter_begun, meter_not_found, of_found, only_said, reserved, still_runs}
-use Rattle.line_world.proofs.Taking.{steps_as, unreserved}
+use Rattle.line_world.proofs.EventSteps.{steps_as, unreserved}
 use Rattle.line_world.proofs.line.Line.scan.Goals as goal
 
 pub returns-in_err-number : goal.returns-in_err-number

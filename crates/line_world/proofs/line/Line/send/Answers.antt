@@ -16,9 +16,9 @@ use Rattle.line_rules.specs.Steps.{happenings, has_begun, send, sends_by, tag_of
 use Rattle.line_world.specs.Bounds.{IsBounded}
 use Rattle.line_world.specs.Lines.{world_of}
 use Rattle.line_world.specs.Steps.{Steps, has_address}
-use Rattle.line_world.proofs.Taking.{IsThere, steps_as, begun, at_node, is_there, holds_there, only_ran, not_found, second_not_found, has_coordinator}
-use Rattle.line_world.proofs.Taking.{unreserved, taking, addressed}
-use Rattle.line_world.proofs.Sendings.{node_sent}
+use Rattle.line_world.proofs.EventSteps.{IsThere, steps_as, begun, at_node, is_there, holds_there, only_ran, not_found, second_not_found, has_coordinator}
+use Rattle.line_world.proofs.EventSteps.{unreserved, taking, addressed}
+use Rattle.line_world.proofs.CountedSends.{node_sent}
 use Rattle.line_world.proofs.line.Line.send.Goals as goal
 
 pub returns-in_err-from : goal.returns-in_err-from

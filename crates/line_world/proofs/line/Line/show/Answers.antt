@@ -2,11 +2,11 @@
 use Rattle.std.proofs.Common.{◌≡◌, Some, false, ap, ◌∙◌, Err}
 use Rattle.line_events.specs.declared.event.StepFault.{StepFault}
 use Rattle.std.proofs.lemmas.Result.{err_from_is_err_and}
-use Rattle.node_rules.specs.Showing.{shown_of}
+use Rattle.node_rules.specs.ShownNodes.{shown_of}
 use Rattle.line_events.specs.declared.event.Answer.TheVariants as answers
 use Rattle.line_rules.specs.Steps.{happenings, running_world, show, trace_of}
 use Rattle.line_world.specs.Lines.{world_of}
-use Rattle.line_world.proofs.Taking.{steps_as, begun, at_node, is_there, holds_there, only_ran, not_found, has_coordinator}
+use Rattle.line_world.proofs.EventSteps.{steps_as, begun, at_node, is_there, holds_there, only_ran, not_found, has_coordinator}
 use Rattle.line_world.proofs.line.Line.show.Goals as goal
 
 pub returns-in_err-number : goal.returns-in_err-number

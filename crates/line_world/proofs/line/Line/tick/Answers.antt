@@ -8,8 +8,8 @@ use Rattle.line_rules.specs.Further.{after_ok, ticks}
 use Rattle.line_rules.specs.Steps.{happenings, running_world, tick, ticked, trace_of}
 use Rattle.line_world.specs.Bounds.{IsBounded}
 use Rattle.line_world.specs.Lines.{world_of}
-use Rattle.line_world.proofs.Settings.{bounded_beside}
-use Rattle.line_world.proofs.Taking.{steps_as, unbegun, begun, is_taken_so, bounded_by, many_given, refused}
+use Rattle.line_world.proofs.SetupSteps.{bounded_beside}
+use Rattle.line_world.proofs.EventSteps.{steps_as, unbegun, begun, is_taken_so, bounded_by, many_given, refused}
 use Rattle.line_world.proofs.line.Line.tick.Goals as goal
 
 pub returns-then-not-has_begun : goal.returns-then-not-has_begun

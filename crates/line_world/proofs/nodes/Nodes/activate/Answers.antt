@@ -6,7 +6,7 @@ use Rattle.node_rules.proofs.TablePlans.{coordinators_in_place}
 use Rattle.node_rules.specs.Coordinators as rules
 use Rattle.node_rules.specs.declared.refusal.CoordinatorRefusal.TheVariants as orders
 use Rattle.node_rules.specs.NodeSteps.{acts}
-use Rattle.line_world.proofs.CoordinatorActing.{holds, own_took, ringless_sound}
+use Rattle.line_world.proofs.CoordinatorActs.{holds, own_took, ringless_sound}
 use Rattle.line_world.proofs.NumberedNodes.{coordinator_at, its_did_at, its_sound, its_sound_with}
 use Rattle.line_world.proofs.nodes.Nodes.activate.Goals as goal
 

@@ -3,12 +3,12 @@ use Rattle.std.proofs.Common.{Err, refl}
 use Rattle.coordinator.specs.CoordinatorStates.{identity_of, node_of}
 use Rattle.node_rules.proofs.RingPuts.{coordinators_write_no_ring}
 use Rattle.node_rules.proofs.TablePlans.{coordinators_in_place}
-use Rattle.node_rules.specs.Carrying.{nothing}
+use Rattle.node_rules.specs.CarriedPlans.{nothing}
 use Rattle.node_rules.specs.Coordinators as rules
 use Rattle.node_rules.specs.declared.refusal.CoordinatorRefusal.TheVariants as orders
 use Rattle.node_rules.specs.NodeSteps.{acts}
-use Rattle.line_world.proofs.Acting.{gives_nothing}
-use Rattle.line_world.proofs.CoordinatorActing.{holds, own_took, ringless_sound}
+use Rattle.line_world.proofs.NodeActs.{gives_nothing}
+use Rattle.line_world.proofs.CoordinatorActs.{holds, own_took, ringless_sound}
 use Rattle.line_world.proofs.NumberedNodes.{coordinator_at, its_did_at, its_sound, its_sound_with}
 use Rattle.line_world.proofs.nodes.Nodes.allow.Goals as goal
 

@@ -3,7 +3,7 @@ use Rattle.std.proofs.Common.{Err, arith}
 use Rattle.node_rules.specs.Drafts.{alone}
 use Rattle.node_rules.specs.MemoryDrafts.{in_memory}
 use Rattle.reach_rules.specs.declared.refusal.AskRefusal.TheVariants as asks
-use Rattle.reach_rules.specs.PathAsking.{ask_path}
+use Rattle.reach_rules.specs.PathRequests.{ask_path}
 use Rattle.line_world.proofs.LentFurther.{ask_lent}
 use Rattle.line_world.proofs.LentNodes.{coordinator_lends, meter_lends, first_sound_still, lent_agrees, reached_first}
 use Rattle.line_world.proofs.nodes.Nodes.ask.Goals as goal

@@ -1,10 +1,10 @@
 -- What the station of a node did, the node of its number did.
 use Rattle.std.proofs.Common.{arith}
-use Rattle.node_rules.specs.Carrying.{nothing}
+use Rattle.node_rules.specs.CarriedPlans.{nothing}
 use Rattle.node_rules.specs.Plans.{resting}
 use Rattle.line_events.specs.declared.event.Answer.TheVariants as answers
 use Rattle.line_world.proofs.LentStations.{breaking, breaks_own}
-use Rattle.line_world.proofs.Acting.{gives_nothing}
+use Rattle.line_world.proofs.NodeActs.{gives_nothing}
 use Rattle.line_world.proofs.LentNodes.{coordinator_lends, lent_agrees, meter_lends, station_did, station_sound}
 use Rattle.line_world.proofs.nodes.Nodes.broke.Goals as goal
 

@@ -1,12 +1,12 @@
 -- A loss of power of a node is set.
 use Rattle.std.proofs.Common.{Some, arith}
 use Rattle.line_events.specs.declared.event.Answer.TheVariants as answers
-use Rattle.node_rules.specs.Carrying.{nothing}
+use Rattle.node_rules.specs.CarriedPlans.{nothing}
 use Rattle.node_rules.specs.Memory.{Coordinator, Meter}
 use Rattle.node_rules.specs.NodeSteps.{stays}
-use Rattle.line_world.proofs.CoordinatorActing as coordinators
+use Rattle.line_world.proofs.CoordinatorActs as coordinators
 use Rattle.line_world.proofs.LentStations.{cut_sound, cut_took, over}
-use Rattle.line_world.proofs.MeterActing as meters
+use Rattle.line_world.proofs.MeterActs as meters
 use Rattle.line_world.proofs.NumberedNodes.{coordinator_at, did_at, its_did_at, its_sound, its_sound_with, meter_at, sound_at, sound_with}
 use Rattle.line_world.proofs.nodes.Nodes.cut.Goals as goal
 

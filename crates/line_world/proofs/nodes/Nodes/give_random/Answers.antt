@@ -2,14 +2,14 @@
 use Rattle.std.proofs.Common.{Err, arith}
 use Rattle.coordinator.specs.CoordinatorStates.{node_of}
 use Rattle.meter_node.specs.MeterStates.{identity_of}
-use Rattle.node_rules.specs.Carrying.{nothing}
+use Rattle.node_rules.specs.CarriedPlans.{nothing}
 use Rattle.node_rules.specs.declared.refusal.RandomFault.TheVariants as randoms
 use Rattle.node_rules.specs.MemoryDrafts as drafts
 use Rattle.node_rules.specs.NodeSteps.{acts}
 use Rattle.node_rules.proofs.TablePlans.{meters_in_place}
-use Rattle.line_world.proofs.Acting.{gives_nothing}
-use Rattle.line_world.proofs.CoordinatorActing.{holds, own_took, random_in_place, random_no_ring, ringless_sound}
-use Rattle.line_world.proofs.MeterActing.{meter_agrees, meter_sound, meter_stayed, meter_took}
+use Rattle.line_world.proofs.NodeActs.{gives_nothing}
+use Rattle.line_world.proofs.CoordinatorActs.{holds, own_took, random_in_place, random_no_ring, ringless_sound}
+use Rattle.line_world.proofs.MeterActs.{meter_agrees, meter_sound, meter_stayed, meter_took}
 use Rattle.line_world.proofs.NumberedNodes.{coordinator_at, did_at, its_did_at, its_sound, its_sound_with, meter_at, sound_at, sound_with}
 use Rattle.line_world.proofs.nodes.Nodes.give_random.Goals as goal
 

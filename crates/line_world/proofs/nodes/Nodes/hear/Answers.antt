@@ -1,11 +1,11 @@
 -- A node hears a frame.
 use Rattle.std.proofs.Common.{◌∙◌, arith}
-use Rattle.line_world.specs.Receiving.{MayHear}
-use Rattle.line_world.proofs.CoordinatorActing.{holds}
-use Rattle.line_world.proofs.CoordinatorHearing as coordinator
+use Rattle.line_world.specs.Receptions.{MayHear}
+use Rattle.line_world.proofs.CoordinatorActs.{holds}
+use Rattle.line_world.proofs.CoordinatorReceptions as coordinator
 use Rattle.line_world.proofs.HearingSteps as meter
 use Rattle.line_world.proofs.HearingSteps.{came_up, running}
-use Rattle.line_world.proofs.MeterActing.{meter_agrees}
+use Rattle.line_world.proofs.MeterActs.{meter_agrees}
 use Rattle.line_world.proofs.NumberedNodes.{at_place, coordinator_at, did, found_at, found_its, its, its_did, its_sound, its_sound_with, meter_at, sound_at}
 use Rattle.line_world.proofs.NumberedNodes.{sound_with}
 use Rattle.line_world.proofs.nodes.Nodes.hear.Goals as goal

@@ -1,8 +1,8 @@
 -- What the station of a node did, the node of its number did.
 use Rattle.std.proofs.Common.{ℕ, sym, subst, arith}
 use Rattle.node_rules.specs.Drafts.{alone}
-use Rattle.reach_rules.specs.Receiving.{hear_command}
-use Rattle.line_world.specs.Reaching.{ReachesCommand, command_of}
+use Rattle.reach_rules.specs.FurtherReceptions.{hear_command}
+use Rattle.line_world.specs.FurtherOutcomes.{ReachesCommand, command_of}
 use Rattle.line_world.proofs.LentNodes.{commanded, commanded_sound, coordinator_lends, lent_agrees, log_lent, meter_lends}
 use Rattle.line_world.proofs.nodes.Nodes.hear_command.Goals as goal
 

@@ -6,7 +6,7 @@ use Rattle.node_rules.specs.declared.refusal.JoinRefusal.TheVariants as joins
 use Rattle.node_rules.specs.Meters as meters
 use Rattle.node_rules.proofs.TablePlans.{meters_in_place}
 use Rattle.line_rules.specs.Steps.{psk_of}
-use Rattle.line_world.proofs.MeterActing.{meter_agrees, meter_sound, meter_stayed, meter_took}
+use Rattle.line_world.proofs.MeterActs.{meter_agrees, meter_sound, meter_stayed, meter_took}
 use Rattle.line_world.proofs.NumberedNodes.{did, found_at, meter_at, sound_at, sound_with}
 use Rattle.line_world.proofs.nodes.Nodes.join.Goals as goal
 

@@ -1,13 +1,13 @@
 -- What a meter did.
 use Rattle.std.proofs.Common.{Err}
 use Rattle.meter_node.specs.MeterStates.{identity_of}
-use Rattle.node_rules.specs.Carrying.{nothing}
+use Rattle.node_rules.specs.CarriedPlans.{nothing}
 use Rattle.node_rules.specs.declared.refusal.LeaveRefusal.TheVariants as leaves
 use Rattle.node_rules.specs.Meters as meters
 use Rattle.node_rules.specs.NodeSteps.{acts}
 use Rattle.node_rules.proofs.TablePlans.{meters_in_place}
-use Rattle.line_world.proofs.Acting.{gives_nothing}
-use Rattle.line_world.proofs.MeterActing.{meter_agrees, meter_sound, meter_stayed, meter_took}
+use Rattle.line_world.proofs.NodeActs.{gives_nothing}
+use Rattle.line_world.proofs.MeterActs.{meter_agrees, meter_sound, meter_stayed, meter_took}
 use Rattle.line_world.proofs.NumberedNodes.{did_at, meter_at, sound_at, sound_with}
 use Rattle.line_world.proofs.nodes.Nodes.leave.Goals as goal
 

@@ -1,6 +1,6 @@
 -- The coordinator is made.
-use Rattle.line_world.proofs.CoordinatorOpening.{made, made_sound, may_begin, no_gaps}
-use Rattle.line_world.proofs.Making.{first_node}
+use Rattle.line_world.proofs.NewCoordinators.{made, made_sound, may_begin, no_gaps}
+use Rattle.line_world.proofs.NewMeters.{first_node}
 use Rattle.line_world.proofs.nodes.Nodes.make_coordinator.Goals as goal
 
 pub returns-clause-ok : goal.returns-clause-ok

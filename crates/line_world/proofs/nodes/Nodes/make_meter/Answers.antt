@@ -2,7 +2,7 @@
 use Rattle.std.proofs.Common.{subst, sym, List}
 use Rattle.meter_node.specs.MeterStates.{MeterState}
 use Rattle.line_world.specs.Soundness.{AreSound}
-use Rattle.line_world.proofs.Making.{Opened, made_meter, made_sound, node_made, sound_made}
+use Rattle.line_world.proofs.NewMeters.{Opened, made_meter, made_sound, node_made, sound_made}
 use Rattle.line_world.proofs.nodes.Nodes.make_meter.Goals as goal
 
 pub invariant_of-self : goal.invariant_of-self

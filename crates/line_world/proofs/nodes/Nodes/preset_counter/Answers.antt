@@ -1,9 +1,9 @@
 -- What the station of a node did, the node of its number did.
 use Rattle.std.proofs.Common.{Ok, arith}
 use Rattle.node_rules.specs.Calls as calls
-use Rattle.node_rules.specs.Carrying.{nothing}
+use Rattle.node_rules.specs.CarriedPlans.{nothing}
 use Rattle.line_world.proofs.LentStations.{counter_own}
-use Rattle.line_world.proofs.Acting.{gives_nothing}
+use Rattle.line_world.proofs.NodeActs.{gives_nothing}
 use Rattle.line_world.proofs.LentNodes.{coordinator_lends, lent_agrees, meter_lends, station_did, station_sound}
 use Rattle.line_world.proofs.nodes.Nodes.preset_counter.Goals as goal
 

@@ -2,13 +2,13 @@
 use Rattle.std.proofs.Common.{Ok, sym, subst}
 use Rattle.meter_node.specs.MeterStates.{identity_of}
 use Rattle.node_rules.specs.Agreement.{Agrees}
-use Rattle.node_rules.specs.Carrying.{nothing}
+use Rattle.node_rules.specs.CarriedPlans.{nothing}
 use Rattle.node_rules.specs.Memory.{StationMemory}
 use Rattle.node_rules.specs.Meters as meters
 use Rattle.node_rules.specs.NodeSteps.{acts}
 use Rattle.node_rules.specs.States.{State}
 use Rattle.node_rules.proofs.TablePlans.{meters_in_place}
-use Rattle.line_world.proofs.MeterActing.{meter_agrees, rests, running_sound, running_took, sound_back, with_its}
+use Rattle.line_world.proofs.MeterActs.{meter_agrees, rests, running_sound, running_took, sound_back, with_its}
 use Rattle.line_world.proofs.NumberedNodes.{did_at, meter_at, sound_at, sound_with}
 use Rattle.line_world.proofs.nodes.Nodes.provision.Goals as goal
 

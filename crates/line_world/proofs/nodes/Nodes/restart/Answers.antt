@@ -1,9 +1,9 @@
 -- A node restarted.
 use Rattle.std.proofs.Common.{arith}
-use Rattle.node_rules.specs.Carrying.{nothing}
+use Rattle.node_rules.specs.CarriedPlans.{nothing}
 use Rattle.line_rules.specs.Steps.{restarts}
-use Rattle.line_world.proofs.CoordinatorActing as coordinators
-use Rattle.line_world.proofs.MeterActing as meters
+use Rattle.line_world.proofs.CoordinatorActs as coordinators
+use Rattle.line_world.proofs.MeterActs as meters
 use Rattle.line_world.proofs.NumberedNodes.{coordinator_at, did_at, its_did_at, its_sound, its_sound_with, meter_at, sound_at, sound_with}
 use Rattle.line_world.proofs.nodes.Nodes.restart.Goals as goal
 

@@ -1,6 +1,6 @@
 -- What is looked up at the station of a node.
 use Rattle.std.proofs.Common.{refl, arith}
-use Rattle.node_rules.specs.Showing.{shown_station, nothing_shown}
+use Rattle.node_rules.specs.ShownNodes.{shown_station, nothing_shown}
 use Rattle.line_world.proofs.LentStations.{shows}
 use Rattle.line_world.proofs.LentNodes.{coordinator_lends, meter_lends, says, sound_back, unchanged}
 use Rattle.line_world.proofs.nodes.Nodes.show.Goals as goal

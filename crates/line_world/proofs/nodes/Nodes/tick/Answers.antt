@@ -3,7 +3,7 @@ use Rattle.std.proofs.Common.{◌∷◌, List, map, ap, refl, ◌∙◌}
 use Rattle.line_rules.specs.Steps.{ticked}
 use Rattle.node_rules.specs.Memory.{Memory, Node}
 use Rattle.node_rules.specs.States.{State}
-use Rattle.line_world.proofs.CoordinatorActing.{ended, holds, stored_sound}
+use Rattle.line_world.proofs.CoordinatorActs.{ended, holds, stored_sound}
 use Rattle.line_world.proofs.NumberedNodes.{coordinator_at, its_sound, view_of}
 use Rattle.line_world.proofs.nodes.Nodes.tick.Goals as goal
 

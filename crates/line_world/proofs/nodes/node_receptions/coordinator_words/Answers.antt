@@ -1,7 +1,7 @@
--- What the coordinator made of a frame that it did not drop is told.
+-- What the coordinator made of a frame that it did not drop is reported.
 use Rattle.line_rules.specs.Answers as rules
 use Rattle.line_events.specs.declared.event.Answer.TheVariants as answers
-use Rattle.line_world.proofs.CoordinatorHearing.{reported_beside}
+use Rattle.line_world.proofs.CoordinatorReceptions.{reported_beside}
 use Rattle.line_world.proofs.nodes.node_receptions.coordinator_words.Goals as goal
 
 pub returns-in-Challenged-clause-reports : goal.returns-in-Challenged-clause-reports

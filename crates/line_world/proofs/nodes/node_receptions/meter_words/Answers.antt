@@ -1,4 +1,4 @@
--- What a meter made of a frame that it did not drop is told.
+-- What a meter made of a frame that it did not drop is reported.
 use Rattle.line_world.proofs.nodes.node_receptions.meter_words.Goals as goal
 
 pub returns-in-Carried-clause-reports : goal.returns-in-Carried-clause-reports

@@ -1,8 +1,8 @@
--- What the coordinator made of a frame is told.
+-- What the coordinator made of a frame is reported.
 use Rattle.std.proofs.Common.{subst}
 use Rattle.line_rules.specs.Answers as rules
 use Rattle.line_events.specs.declared.event.Answer.{Answer}
-use Rattle.line_world.specs.Receiving.{ReportsReception}
+use Rattle.line_world.specs.Receptions.{ReportsReception}
 use Rattle.line_world.proofs.nodes.node_receptions.reception_of_coordinator.Goals as goal
 
 pub returns-in-Ok-clause-reports : goal.returns-in-Ok-clause-reports

@@ -1,4 +1,4 @@
--- What a station made of a frame is told.
+-- What a station made of a frame is reported.
 use Rattle.line_world.proofs.nodes.node_receptions.reception_of_station.Goals as goal
 
 pub returns-in-Held-clause-reports : goal.returns-in-Held-clause-reports

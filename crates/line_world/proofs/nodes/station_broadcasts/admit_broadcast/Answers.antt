@@ -2,8 +2,8 @@
 use Rattle.std.proofs.Common.{◌≡◌, ◌∙◌, ◌+◌, ℕ, List, None, Result, Ok, Err, true, false, sym, ap, subst}
 use Rattle.std.specs.Prelude.{is_some}
 use Rattle.plc_base.specs.declared.out_frame.Out.{Out}
-use Rattle.node_rules.specs.Carrying.{nothing}
-use Rattle.plc_station.proofs.Carrying.{at_some}
+use Rattle.node_rules.specs.CarriedPlans.{nothing}
+use Rattle.plc_station.proofs.CarriedPlans.{at_some}
 use Rattle.node_rules.specs.Drafts.{alone}
 use Rattle.reach_rules.specs.ReachingNodes.{Beside, reach_ends}
 use Rattle.line_world.proofs.FurtherPlans.{held_by}
@@ -17,7 +17,7 @@ use Rattle.reach_rules.specs.declared.heard.CommandHeard.TheVariants as heard
 use Rattle.reach_rules.specs.declared.refusal.ReachDropped.{ReachDropped}
 use Rattle.reach_rules.specs.declared.refusal.ReachDropped.TheVariants.{Known}
 use Rattle.reach_rules.specs.Broadcasts.{admits_broadcast, hop_less}
-use Rattle.line_world.specs.Reaching.{Reaches, broadcast_of, handed_up}
+use Rattle.line_world.specs.FurtherOutcomes.{Reaches, broadcast_of, handed_up}
 use Rattle.line_world.proofs.BroadcastPlans.{OnlyPut, refused_after, admits_uncounted, admits_on, admits_last, is_last, is_not_last, recorded, unrecorded}
 use Rattle.line_world.proofs.BroadcastPlans.{only_recorded, only_unrecorded, sent_as, still_held, heard_reported, log_left, log_lost, spent_at, left_at}
 use Rattle.line_world.proofs.nodes.station_broadcasts.admit_broadcast.Goals as goal

@@ -1,6 +1,6 @@
 -- A datagram goes to all.
 use Rattle.std.proofs.Common.{◌≡◌, Some, None, Err}
-use Rattle.plc_station.proofs.Carrying.{at_some}
+use Rattle.plc_station.proofs.CarriedPlans.{at_some}
 use Rattle.node_rules.specs.Drafts.{alone}
 use Rattle.reach_rules.specs.declared.refusal.BroadcastRefusal.TheVariants as refusals
 use Rattle.reach_rules.specs.Broadcasts.{broadcast, broadcast_ends, broadcast_from}

@@ -1,11 +1,11 @@
 -- A command of code 04 is heard.
 use Rattle.std.proofs.Common.{◌∙◌, Some, Err, true, false, sym, ap}
 use Rattle.node_rules.specs.Drafts.{alone}
-use Rattle.broadcast_log.specs.Reading.{broadcast_in}
+use Rattle.broadcast_log.specs.Reader.{broadcast_in}
 use Rattle.node_rules.specs.declared.refusal.Dropped.TheVariants as drops
 use Rattle.reach_rules.specs.declared.refusal.ReachDropped.TheVariants.{Known}
 use Rattle.reach_rules.specs.Broadcasts.{hear_broadcast, hear_broadcast_in}
-use Rattle.line_world.specs.Reaching.{broadcast_of, handed_up}
+use Rattle.line_world.specs.FurtherOutcomes.{broadcast_of, handed_up}
 use Rattle.line_world.proofs.FurtherPlans.{held_by}
 use Rattle.line_world.proofs.BroadcastPlans.{dropped_command, is_broadcast, no_broadcast, same_after, to_one}
 use Rattle.line_world.proofs.nodes.station_broadcasts.broadcast_command.Goals as goal

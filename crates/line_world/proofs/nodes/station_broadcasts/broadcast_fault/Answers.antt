@@ -1,7 +1,7 @@
 -- Why a broadcast is not admitted.
 use Rattle.std.proofs.Common.{◌∙◌, Err, sym, ap}
 use Rattle.reach_rules.specs.Broadcasts.{mark_fault}
-use Rattle.line_world.specs.Reaching.{broadcast_of}
+use Rattle.line_world.specs.FurtherOutcomes.{broadcast_of}
 use Rattle.line_world.proofs.FurtherPlans.{fault_own, fault_other}
 use Rattle.line_world.proofs.nodes.station_broadcasts.broadcast_fault.Goals as goal
 

@@ -1,7 +1,7 @@
 -- A datagram goes to all, from the own address.
 use Rattle.std.proofs.Common.{◌≡◌, ◌∙◌, ◌+◌, ℕ, List, None, Result, Err, true, false, sym, ap, subst}
 use Rattle.std.specs.Prelude.{is_some}
-use Rattle.plc_station.proofs.Carrying.{at_some}
+use Rattle.plc_station.proofs.CarriedPlans.{at_some}
 use Rattle.node_rules.specs.Drafts.{alone}
 use Rattle.reach_rules.specs.ReachingNodes.{Beside}
 use Rattle.line_world.proofs.FurtherPlans.{held_by}
@@ -11,7 +11,7 @@ use Rattle.broadcast_log.specs.NextNumber.{number_put}
 use Rattle.reach_rules.specs.declared.refusal.BroadcastRefusal.{BroadcastRefusal}
 use Rattle.reach_rules.specs.declared.refusal.BroadcastRefusal.TheVariants as refusals
 use Rattle.reach_rules.specs.Broadcasts.{broadcast_ends, broadcast_from, own_broadcast}
-use Rattle.line_world.specs.Reaching.{ReachesFirst}
+use Rattle.line_world.specs.FurtherOutcomes.{ReachesFirst}
 use Rattle.line_world.proofs.BroadcastPlans.{OnlyPut, refused_first, refuses_size, refuses_spent, refuses_uncounted, own_goes, spent_number, left_number}
 use Rattle.line_world.proofs.BroadcastPlans.{spent_at, left_at, first_recorded, first_unrecorded, sent_as, still_held, own_after, log_left, log_lost}
 use Rattle.line_world.proofs.nodes.station_broadcasts.broadcast_from.Goals as goal

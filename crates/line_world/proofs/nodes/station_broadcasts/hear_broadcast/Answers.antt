@@ -1,13 +1,13 @@
 -- A broadcast is heard.
 use Rattle.std.proofs.Common.{◌≡◌, ◌∙◌, Some, Err, sym, ap}
-use Rattle.plc_station.proofs.Carrying.{at_some}
+use Rattle.plc_station.proofs.CarriedPlans.{at_some}
 use Rattle.node_rules.specs.Drafts.{alone}
 use Rattle.node_rules.specs.Memory.{address_of}
 use Rattle.node_rules.specs.declared.refusal.Dropped.TheVariants as drops
 use Rattle.reach_rules.specs.declared.refusal.ReachDropped.TheVariants.{Known}
 use Rattle.reach_rules.specs.Broadcasts.{admits_broadcast, broadcast_fault, hear_broadcast_in}
 use Rattle.reach_rules.specs.ReachingNodes.{Beside, reach_ends}
-use Rattle.line_world.specs.Reaching.{broadcast_of, handed_up}
+use Rattle.line_world.specs.FurtherOutcomes.{broadcast_of, handed_up}
 use Rattle.line_world.proofs.FurtherPlans.{held_by}
 use Rattle.line_world.proofs.BroadcastPlans.{hears_fault, hears_right, joined_by, refused_after, right_marks, same_after}
 use Rattle.line_world.proofs.nodes.station_broadcasts.hear_broadcast.Goals as goal

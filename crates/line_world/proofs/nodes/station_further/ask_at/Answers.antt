@@ -5,11 +5,11 @@ use Rattle.std.specs.Prelude.{IsSome}
 use Rattle.plc_base.specs.declared.out_frame.Out.{Out}
 use Rattle.node_rules.specs.Drafts.{alone}
 use Rattle.node_rules.specs.Memory.{station_route}
-use Rattle.plc_station.proofs.Carrying.{at_some}
+use Rattle.plc_station.proofs.CarriedPlans.{at_some}
 use Rattle.reach_rules.specs.declared.refusal.AskRefusal.TheVariants as asks
-use Rattle.reach_rules.specs.PathAsking.{ask_path}
+use Rattle.reach_rules.specs.PathRequests.{ask_path}
 use Rattle.reach_rules.specs.ReachingNodes.{Beside}
-use Rattle.line_world.specs.Reaching.{ReachesFirst}
+use Rattle.line_world.specs.FurtherOutcomes.{ReachesFirst}
 use Rattle.line_world.proofs.FurtherPlans.{held_by, first_rests, asks_unjoined, asks_itself, asks_nowhere}
 use Rattle.line_world.proofs.PathPlans.{asked, owned}
 use Rattle.line_world.proofs.nodes.station_further.ask_at.Goals as goal

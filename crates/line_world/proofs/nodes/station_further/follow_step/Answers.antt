@@ -5,7 +5,7 @@ use Rattle.node_rules.specs.Drafts.{alone}
 use Rattle.path_requests.specs.declared.step.PathStep.{PathStep}
 use Rattle.reach_rules.specs.declared.heard.CommandHeard.TheVariants as commands
 use Rattle.reach_rules.specs.declared.refusal.ReachDropped.TheVariants.{Known}
-use Rattle.reach_rules.specs.PathAsking.{follows_path}
+use Rattle.reach_rules.specs.PathRequests.{follows_path}
 use Rattle.reach_rules.specs.ReachingNodes.{Beside, remembers}
 use Rattle.line_world.specs.declared.nodes.station_further.PathHeard.TheVariants as paths
 use Rattle.line_world.proofs.FurtherPlans.{held_by}

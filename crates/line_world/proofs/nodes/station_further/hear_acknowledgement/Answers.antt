@@ -1,7 +1,7 @@
 -- An acknowledgement that is heard.
 use Rattle.std.proofs.Common.{ap, sym, ◌∙◌}
 use Rattle.neighbour_checks.specs.Acks.{ack_in}
-use Rattle.line_world.specs.Reaching.{command_of}
+use Rattle.line_world.specs.FurtherOutcomes.{command_of}
 use Rattle.line_world.proofs.FurtherPlans.{ends_all, ends_unread}
 use Rattle.line_world.proofs.PathPlans.{awaited_ends, unawaited_ends}
 use Rattle.line_world.proofs.nodes.station_further.hear_acknowledgement.Goals as goal

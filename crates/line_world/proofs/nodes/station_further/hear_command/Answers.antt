@@ -3,8 +3,8 @@ use Rattle.node_rules.specs.declared.refusal.Dropped.TheVariants.{BadUnit}
 use Rattle.node_rules.specs.Drafts.{alone}
 use Rattle.reach_rules.specs.declared.refusal.ReachDropped.TheVariants.{Known}
 use Rattle.reach_rules.specs.ReachingNodes.{Beside}
-use Rattle.reach_rules.specs.Receiving.{hear_command_at}
-use Rattle.line_world.specs.Reaching.{answer_as, command_of, path_heard}
+use Rattle.reach_rules.specs.FurtherReceptions.{hear_command_at}
+use Rattle.line_world.specs.FurtherOutcomes.{answer_as, command_of, path_heard}
 use Rattle.line_world.proofs.FurtherPlans.{held_by}
 use Rattle.line_world.proofs.PathPlans.{broadcast_command, by_none, dropped_after, ended_command, path_command}
 use Rattle.line_world.proofs.nodes.station_further.hear_command.Goals as goal

@@ -6,8 +6,8 @@ use Rattle.plc_base.specs.declared.out_frame.Out.{Out}
 use Rattle.node_rules.specs.declared.refusal.Dropped.TheVariants.{BadUnit, Store}
 use Rattle.node_rules.specs.Drafts.{alone}
 use Rattle.reach_rules.specs.declared.refusal.ReachDropped.TheVariants.{Known}
-use Rattle.reach_rules.specs.Receiving.{hear_command}
-use Rattle.line_world.specs.Reaching.{Reaches, command_of}
+use Rattle.reach_rules.specs.FurtherReceptions.{hear_command}
+use Rattle.line_world.specs.FurtherOutcomes.{Reaches, command_of}
 use Rattle.line_world.proofs.FurtherPlans.{held_by, stayed_after}
 use Rattle.line_world.proofs.PathPlans.{dropped_after, heard_unjoined, only_dropped, owned}
 use Rattle.line_world.proofs.nodes.station_further.hear_command_at.Goals as goal

@@ -2,13 +2,13 @@
 use Rattle.std.proofs.Common.{◌≡◌, ℕ, Option, Result, Ok, Err, ap, sym, ◌∙◌}
 use Rattle.path_requests.specs.declared.step.PathRefusal.{PathRefusal}
 use Rattle.path_requests.specs.declared.step.PathStep.{PathStep}
-use Rattle.path_requests.specs.Reading.{path_in}
-use Rattle.path_requests.specs.Taking.{taken}
+use Rattle.path_requests.specs.Reader.{path_in}
+use Rattle.path_requests.specs.PathSteps.{taken}
 use Rattle.node_rules.specs.declared.refusal.Dropped.TheVariants.{BadUnit, Store}
 use Rattle.node_rules.specs.Drafts.{alone}
-use Rattle.plc_station.proofs.Carrying.{at_some}
+use Rattle.plc_station.proofs.CarriedPlans.{at_some}
 use Rattle.reach_rules.specs.declared.refusal.ReachDropped.TheVariants.{Known}
-use Rattle.reach_rules.specs.PathAsking.{follows_path, hear_path, next_toward}
+use Rattle.reach_rules.specs.PathRequests.{follows_path, hear_path, next_toward}
 use Rattle.reach_rules.specs.ReachingNodes.{drop_it}
 use Rattle.line_world.proofs.FurtherPlans.{held_by}
 use Rattle.line_world.proofs.PathPlans.{hears_for_all, hears_read, hears_unread, reaches_as, remembers_after}

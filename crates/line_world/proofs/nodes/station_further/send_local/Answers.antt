@@ -1,4 +1,4 @@
-use Rattle.plc_station.proofs.Carrying.{met_some}
+use Rattle.plc_station.proofs.CarriedPlans.{met_some}
 use Rattle.line_world.proofs.nodes.station_further.send_local.Goals as goal
 
 pub returns-clause-carries : goal.returns-clause-carries

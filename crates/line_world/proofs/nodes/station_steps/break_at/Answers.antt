@@ -1,5 +1,5 @@
 -- A link breaks.
-use Rattle.line_world.proofs.Breaking.{stayed_broken, carries_broken}
+use Rattle.line_world.proofs.BrokenLinks.{stayed_broken, carries_broken}
 use Rattle.line_world.proofs.nodes.station_steps.break_at.Goals as goal
 
 pub returns-clause-halted : goal.returns-clause-halted

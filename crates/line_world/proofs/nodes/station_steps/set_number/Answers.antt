@@ -1,6 +1,6 @@
 -- A number is set.
 use Rattle.std.proofs.Common.{refl}
-use Rattle.line_world.proofs.Acting.{if_none, not_none, not_some}
+use Rattle.line_world.proofs.NodeActs.{if_none, not_none, not_some}
 use Rattle.line_world.proofs.nodes.station_steps.set_number.Goals as goal
 
 pub returns-then-halted-clause-halted : goal.returns-then-halted-clause-halted

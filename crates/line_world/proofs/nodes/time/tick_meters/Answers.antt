@@ -9,7 +9,7 @@ use Rattle.node_rules.specs.Memory.{Memory, Node}
 use Rattle.node_rules.specs.States.{State}
 use Rattle.line_world.specs.Nodes.{of_meter}
 use Rattle.line_world.specs.Soundness.{IsSoundMeter}
-use Rattle.line_world.proofs.MeterActing.{ended, meter_agrees, stored_sound}
+use Rattle.line_world.proofs.MeterActs.{ended, meter_agrees, stored_sound}
 use Rattle.line_world.proofs.Places.{found_in, set_in, sound_in, up_to_next, up_to_end}
 use Rattle.line_world.proofs.nodes.time.tick_meters.Goals as goal
 

@@ -4,7 +4,7 @@ use Rattle.line_events.specs.declared.event.TheConstants.{MAX_EVENTS}
 use Rattle.line_rules.specs.Worlds.{World}
 use Rattle.line_world.specs.Lines.{world_of}
 use Rattle.line_world.proofs.Besides.{beside_long}
-use Rattle.line_world.proofs.Comings.{still_kept}
+use Rattle.line_world.proofs.ArrivedOctets.{still_kept}
 use Rattle.line_world.proofs.Reached.{still_reached}
 use Rattle.line_world.proofs.Unchecked.{still_none}
 use Rattle.line_world.proofs.world.World.step.Goals as goal

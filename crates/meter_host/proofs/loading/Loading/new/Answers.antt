@@ -1,6 +1,6 @@
 use Rattle.std.proofs.Common.{ap}
 use Rattle.plc_base.specs.Keeper.{Store}
-use Rattle.store_tables.proofs.Opening.{empty_gapless}
+use Rattle.store_tables.proofs.OpenedTables.{empty_gapless}
 use Rattle.frame_counters.specs.PeerMarks.{peers}
 use Rattle.routing_set.specs.RoutingSet.{ranks}
 use Rattle.meter_host.proofs.loading.Loading.new.Goals as goal

@@ -1,10 +1,10 @@
 use Rattle.std.specs.Option.{option_map}
-use Rattle.node_rules.specs.Carrying.{nothing}
+use Rattle.node_rules.specs.CarriedPlans.{nothing}
 use Rattle.node_rules.specs.Meters as meters
 use Rattle.node_rules.specs.Calls as calls
-use Rattle.plc_station.proofs.Carrying.{at_some}
+use Rattle.plc_station.proofs.CarriedPlans.{at_some}
 use Rattle.meter_node.specs.Sessions.{session_of}
-use Rattle.meter_node.specs.Hearing as hearing
+use Rattle.meter_node.specs.MeterAnswers as meter_answers
 use Rattle.meter_node.specs.MeterStates.{memory_with}
 use Rattle.meter_node.proofs.Carried.{on_node, as_station}
 use Rattle.meter_node.proofs.MeterRules.{activates}
@@ -18,7 +18,7 @@ returns-clause-carries g c =
       randoms = c.self.inside.randoms;
       session = option_map session_of c.self.inside.session;
     }) _ (λ l running.
-    as_station hearing.activated_as (record {
+    as_station meter_answers.activated_as (record {
       station = c.self.inside.station;
       psk = c.self.inside.pair_key;
       randoms = c.self.inside.randoms;

@@ -1,5 +1,5 @@
 use Rattle.std.proofs.Common.{sym}
-use Rattle.plc_station.proofs.Carrying.{at_some}
+use Rattle.plc_station.proofs.CarriedPlans.{at_some}
 use Rattle.meter_node.proofs.ChallengeRules.{on_some, no_session, awaited}
 use Rattle.meter_node.proofs.meter.Meter.awaits.Goals as goal
 

@@ -2,10 +2,10 @@ use Rattle.std.proofs.Common.{Some, sym, ap, refl, ◌∙◌}
 use Rattle.std.specs.Option.{option_map}
 use Rattle.std.proofs.lemmas.Result.{err_from_is_err_and}
 use Rattle.plc_base.specs.Addresses.{eui_number}
-use Rattle.node_rules.specs.Hearing.{dropped}
+use Rattle.node_rules.specs.HearingRules.{dropped}
 use Rattle.node_rules.specs.Meters as meters
 use Rattle.node_rules.specs.declared.refusal.Dropped.TheVariants.{BadUnit}
-use Rattle.plc_station.proofs.Carrying.{at_some}
+use Rattle.plc_station.proofs.CarriedPlans.{at_some}
 use Rattle.meter_node.specs.Sessions.{session_of}
 use Rattle.meter_node.specs.MeterStates.{MeterState, memory_with}
 use Rattle.meter_node.proofs.Carried.{on_node, refuses}

@@ -1,6 +1,6 @@
 use Rattle.std.proofs.Common.{[], refl}
 use Rattle.std.specs.Option.{option_map}
-use Rattle.node_rules.specs.Carrying.{nothing}
+use Rattle.node_rules.specs.CarriedPlans.{nothing}
 use Rattle.node_rules.specs.MemoryDrafts.{given_ends, give_random}
 use Rattle.meter_node.specs.Sessions.{session_of}
 use Rattle.meter_node.specs.MeterStates.{node_of, memory_with}

@@ -2,9 +2,9 @@ use Rattle.std.proofs.Common.{Result, sym, subst}
 use Rattle.std.specs.Option.{option_map}
 use Rattle.node_rules.specs.declared.heard.MeterHeard.{MeterHeard}
 use Rattle.node_rules.specs.declared.refusal.Dropped.{Dropped}
-use Rattle.node_rules.specs.Carrying.{Carries}
+use Rattle.node_rules.specs.CarriedPlans.{Carries}
 use Rattle.node_rules.specs.Meters as meters
-use Rattle.plc_station.proofs.Carrying.{at_some}
+use Rattle.plc_station.proofs.CarriedPlans.{at_some}
 use Rattle.meter_node.specs.Sessions.{session_of}
 use Rattle.meter_node.specs.MeterStates.{MeterState, node_of, memory_with, identity_of}
 use Rattle.meter_node.proofs.Carried.{on_node}

@@ -1,6 +1,6 @@
 use Rattle.std.proofs.Common.{ap, refl, sym, ◌∙◌}
-use Rattle.joining_messages.specs.Reading.{join_in}
-use Rattle.node_rules.specs.Hearing.{dropped}
+use Rattle.joining_messages.specs.Reader.{join_in}
+use Rattle.node_rules.specs.HearingRules.{dropped}
 use Rattle.node_rules.specs.Meters as meters
 use Rattle.node_rules.specs.declared.refusal.Dropped.TheVariants.{BadUnit}
 use Rattle.meter_node.specs.MeterStates.{memory_with, identity_of}

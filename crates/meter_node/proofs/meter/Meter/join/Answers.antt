@@ -2,10 +2,10 @@ use Rattle.std.proofs.Common.{Some, [], ◌∷◌, ◌++◌, sym, refl, ◌∙�
 use Rattle.std.specs.Option.{option_map}
 use Rattle.node_rules.specs.Ciphers.{network}
 use Rattle.node_rules.specs.Meters as meters
-use Rattle.node_rules.specs.Joining.{message}
+use Rattle.node_rules.specs.JoiningPackets.{message}
 use Rattle.node_rules.specs.Frames.{Up, spelled}
 use Rattle.joining_messages.specs.declared.message.JoinBody.TheVariants as body
-use Rattle.plc_station.proofs.Carrying.{at_some}
+use Rattle.plc_station.proofs.CarriedPlans.{at_some}
 use Rattle.meter_node.specs.Sessions.{session_of}
 use Rattle.meter_node.specs.MeterStates.{memory_with, identity_of}
 use Rattle.meter_node.proofs.Carried.{on_node, refuses, changes, joins, joined_already, asking}

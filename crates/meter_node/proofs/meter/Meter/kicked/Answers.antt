@@ -1,13 +1,13 @@
 use Rattle.std.proofs.Common.{None}
 use Rattle.std.specs.Option.{option_map}
-use Rattle.node_rules.specs.Carrying.{nothing}
+use Rattle.node_rules.specs.CarriedPlans.{nothing}
 use Rattle.node_rules.specs.Meters as meters
-use Rattle.plc_station.proofs.Carrying.{at_some}
+use Rattle.plc_station.proofs.CarriedPlans.{at_some}
 use Rattle.meter_node.specs.Sessions.{session_of}
 use Rattle.meter_node.specs.MeterStates.{memory_with}
 use Rattle.meter_node.proofs.Carried.{on_node, as_station}
 use Rattle.node_rules.specs.Calls as calls
-use Rattle.meter_node.specs.Hearing as hearing
+use Rattle.meter_node.specs.MeterAnswers as meter_answers
 use Rattle.meter_node.proofs.MeterRules.{kicks}
 use Rattle.meter_node.proofs.meter.Meter.kicked.Goals as goal
 
@@ -19,7 +19,7 @@ returns-in_default-clause-carries g c =
       randoms = c.self.inside.randoms;
       session = option_map session_of c.self.inside.session;
     }) _ (λ l running.
-    as_station hearing.left_as (record {
+    as_station meter_answers.left_as (record {
       station = c.self.inside.station;
       psk = c.self.inside.pair_key;
       randoms = c.self.inside.randoms;
@@ -47,7 +47,7 @@ returns-clause-carries g c =
       randoms = c.self.inside.randoms;
       session = option_map session_of c.self.inside.session;
     }) _ (λ l running.
-    as_station hearing.left_as (record {
+    as_station meter_answers.left_as (record {
       station = c.self.inside.station;
       psk = c.self.inside.pair_key;
       randoms = c.self.inside.randoms;

@@ -1,8 +1,8 @@
 use Rattle.std.proofs.Common.{None, sym, refl}
 use Rattle.std.specs.Option.{option_map}
-use Rattle.node_rules.specs.Carrying.{nothing}
+use Rattle.node_rules.specs.CarriedPlans.{nothing}
 use Rattle.node_rules.specs.Meters as meters
-use Rattle.plc_station.proofs.Carrying.{at_some}
+use Rattle.plc_station.proofs.CarriedPlans.{at_some}
 use Rattle.meter_node.specs.Sessions.{session_of}
 use Rattle.meter_node.specs.MeterStates.{memory_with}
 use Rattle.meter_node.proofs.Carried.{on_node, refuses, as_station, leaves, left_as, not_joined}

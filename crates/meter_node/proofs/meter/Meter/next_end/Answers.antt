@@ -1,5 +1,5 @@
 use Rattle.std.specs.Option.{option_map}
-use Rattle.plc_station.proofs.Carrying.{at_some}
+use Rattle.plc_station.proofs.CarriedPlans.{at_some}
 use Rattle.meter_node.specs.MeterStates.{MeterState}
 use Rattle.meter_node.specs.Sessions.{session_of}
 use Rattle.meter_node.proofs.Carried.{on_node}

@@ -6,13 +6,13 @@ use Rattle.plc_base.specs.declared.out_frame.Out.{Out}
 use Rattle.joining_messages.specs.declared.message.JoinBody.TheVariants as body
 use Rattle.node_rules.specs.Ciphers.{network}
 use Rattle.node_rules.specs.Frames.{Up, spelled}
-use Rattle.node_rules.specs.Hearing.{dropped}
+use Rattle.node_rules.specs.HearingRules.{dropped}
 use Rattle.node_rules.specs.Memory as memory
-use Rattle.node_rules.specs.Joining.{message}
+use Rattle.node_rules.specs.JoiningPackets.{message}
 use Rattle.node_rules.specs.Meters as meters
-use Rattle.plc_station.proofs.Carrying.{at_some}
+use Rattle.plc_station.proofs.CarriedPlans.{at_some}
 use Rattle.meter_node.specs.Sessions.{session_of}
-use Rattle.meter_node.specs.Hearing.{first_refusal}
+use Rattle.meter_node.specs.MeterAnswers.{first_refusal}
 use Rattle.meter_node.specs.MeterStates.{MeterState, memory_with, identity_of}
 use Rattle.meter_node.proofs.Carried.{on_node, refuses, untagged}
 use Rattle.meter_node.proofs.ChallengeRules.{reply_refused}

@@ -7,14 +7,14 @@ use Rattle.joining_messages.specs.declared.message.JoinBody.TheVariants as body
 use Rattle.eap_psk.specs.Keys.{keys_of}
 use Rattle.node_rules.specs.Ciphers.{network}
 use Rattle.node_rules.specs.Frames.{Up, spelled}
-use Rattle.node_rules.specs.Hearing.{dropped}
+use Rattle.node_rules.specs.HearingRules.{dropped}
 use Rattle.node_rules.specs.Memory as memory
-use Rattle.node_rules.specs.Joining.{message}
+use Rattle.node_rules.specs.JoiningPackets.{message}
 use Rattle.node_rules.specs.Meters as meters
 use Rattle.node_rules.specs.States.{State}
-use Rattle.plc_station.proofs.Carrying.{at_some}
+use Rattle.plc_station.proofs.CarriedPlans.{at_some}
 use Rattle.meter_node.specs.Sessions.{session_of}
-use Rattle.meter_node.specs.Hearing.{third_refusal}
+use Rattle.meter_node.specs.MeterAnswers.{third_refusal}
 use Rattle.meter_node.specs.MeterStates.{MeterState, memory_with, identity_of}
 use Rattle.meter_node.proofs.Carried.{on_node, refuses, untagged}
 use Rattle.meter_node.proofs.ChallengeRules.{take_refused}

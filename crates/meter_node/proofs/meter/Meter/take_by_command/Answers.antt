@@ -4,19 +4,19 @@ use Rattle.std.specs.Option.{option_map}
 use Rattle.plc_base.specs.Faults.{◌then◌, ◌unless◌}
 use Rattle.joining_messages.specs.declared.message.JoinBody.TheVariants as body
 use Rattle.eap_psk.specs.Keys.{keys_of}
-use Rattle.node_rules.specs.Hearing.{dropped, dropped_for}
+use Rattle.node_rules.specs.HearingRules.{dropped, dropped_for}
 use Rattle.node_rules.specs.Calls as calls
 use Rattle.node_rules.specs.Calls.{command_fault}
-use Rattle.node_rules.specs.Carrying.{Carries}
+use Rattle.node_rules.specs.CarriedPlans.{Carries}
 use Rattle.node_rules.specs.States.{State}
-use Rattle.node_rules.specs.Composing.{HasRoom}
+use Rattle.node_rules.specs.ComposedPlans.{HasRoom}
 use Rattle.node_rules.specs.Memory as memory
-use Rattle.node_rules.specs.Joining.{command_of, message}
+use Rattle.node_rules.specs.JoiningPackets.{command_of, message}
 use Rattle.node_rules.specs.Meters as meters
 use Rattle.node_rules.specs.declared.refusal.Dropped.TheVariants.{NoSession}
-use Rattle.plc_station.proofs.Carrying.{at_some}
+use Rattle.plc_station.proofs.CarriedPlans.{at_some}
 use Rattle.meter_node.specs.Sessions.{session_of}
-use Rattle.meter_node.specs.Hearing.{third_refusal}
+use Rattle.meter_node.specs.MeterAnswers.{third_refusal}
 use Rattle.meter_node.specs.MeterStates.{MeterState, memory_with, identity_of}
 use Rattle.meter_node.proofs.Carried.{on_node, refuses, untagged}
 use Rattle.meter_node.proofs.ChallengeRules.{take_refused}

@@ -2,7 +2,7 @@ use Rattle.std.proofs.Common.{◌≡◌, List, [], ◌∷◌, ◌++◌, length, 
 use Rattle.std.specs.Prelude.{slice_index}
 use Rattle.std.proofs.lemmas.List.{get_or_read}
 use Rattle.octet_log.specs.declared.chains.Link.{Link}
-use Rattle.octet_log.specs.Keeping.{Chained}
+use Rattle.octet_log.specs.LogChains.{Chained}
 use Rattle.octet_log.proofs.Lasts.{if_ok}
 use Rattle.octet_log.proofs.Links.{linked_push}
 use Rattle.octet_log.proofs.chains.Chains.push.Goals as goal

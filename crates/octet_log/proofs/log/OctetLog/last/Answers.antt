@@ -1,5 +1,5 @@
 use Rattle.std.proofs.Common.{◌≡◌, List, ℕ, map, ap, subst, ◌∙◌}
-use Rattle.octet_log.specs.Keeping.{chain_of}
+use Rattle.octet_log.specs.LogChains.{chain_of}
 use Rattle.octet_log.specs.Logs.{Log, IsLast}
 use Rattle.octet_log.proofs.Lasts.{last_in_chain}
 use Rattle.octet_log.proofs.log.OctetLog.last.Goals as goal

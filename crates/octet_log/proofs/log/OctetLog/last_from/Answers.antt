@@ -1,6 +1,6 @@
 use Rattle.std.proofs.Common.{◌≡◌, ◌-◌, List, ℕ, map, take, ap, subst, ◌∙◌, arith}
 use Rattle.std.specs.Prelude.{slice_index}
-use Rattle.octet_log.specs.Keeping.{chain_of}
+use Rattle.octet_log.specs.LogChains.{chain_of}
 use Rattle.octet_log.specs.Logs.{Log, IsLast}
 use Rattle.octet_log.proofs.Lasts.{IsSought, sought_before, sought_ends}
 use Rattle.octet_log.proofs.log.OctetLog.last_from.Goals as goal

@@ -1,5 +1,5 @@
 use Rattle.std.proofs.Common.{◌≡◌, [], ◌∷◌, ◌++◌, List, ℕ, ap, ◌∙◌, ◌-◌, arith, length, length-append}
-use Rattle.octet_log.specs.Keeping.{strings_of}
+use Rattle.octet_log.specs.LogChains.{strings_of}
 use Rattle.octet_log.specs.Logs.{Log}
 use Rattle.octet_log.proofs.Ends.{ends_push, strings_push}
 use Rattle.octet_log.proofs.Lasts.{if_ok}

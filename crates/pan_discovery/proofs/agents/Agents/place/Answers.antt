@@ -1,7 +1,7 @@
 -- At its place, or nowhere where 16 come before it.
 use Rattle.std.proofs.Common.{◌≤◌, ◌<◌, take, ◌∙◌, ap, arith}
 use Rattle.std.specs.Prelude.{insert}
-use Rattle.pan_discovery.proofs.Hearing.{place, placed_in, placed_out}
+use Rattle.pan_discovery.proofs.AgentPlaces.{place, placed_in, placed_out}
 use Rattle.pan_discovery.proofs.agents.Agents.place.Goals as goal
 
 pub returns-then-place-ge16 : goal.returns-then-place-ge16

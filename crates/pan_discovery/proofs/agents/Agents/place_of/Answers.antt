@@ -1,6 +1,6 @@
 -- The place that `position` answers, or the length where it answers none.
 use Rattle.std.proofs.Common.{ap, length, sym, ◌∙◌}
-use Rattle.pan_discovery.proofs.Hearing.{place_none, place_some}
+use Rattle.pan_discovery.proofs.AgentPlaces.{place_none, place_some}
 use Rattle.pan_discovery.proofs.agents.Agents.place_of.Goals as goal
 
 pub returns-in-Some-clause-value : goal.returns-in-Some-clause-value

@@ -1,7 +1,7 @@
 use Rattle.node_rules.specs.Laws.{WaitingFits}
-use Rattle.plc_station.specs.StationReading.{station_in}
-use Rattle.plc_station.proofs.Carrying.{on_memory}
-use Rattle.plc_station.proofs.Holding.{waiting_fits}
+use Rattle.plc_station.specs.StationViews.{station_in}
+use Rattle.plc_station.proofs.CarriedPlans.{on_memory}
+use Rattle.plc_station.proofs.HeldSizes.{waiting_fits}
 use Rattle.plc_station.proofs.station.Station.accept.Goals as goal
 
 pub returns-clause-waits : goal.returns-clause-waits

@@ -1,7 +1,7 @@
 use Rattle.std.proofs.Common.{refl}
-use Rattle.plc_station.specs.StationReading.{station_in}
-use Rattle.plc_station.proofs.Carrying.{on_memory, lines_are}
-use Rattle.plc_station.proofs.Accepting.{admit_refused, admit_failed, admit_done}
+use Rattle.plc_station.specs.StationViews.{station_in}
+use Rattle.plc_station.proofs.CarriedPlans.{on_memory, lines_are}
+use Rattle.plc_station.proofs.Acceptance.{admit_refused, admit_failed, admit_done}
 use Rattle.plc_station.proofs.station.Station.admit.Goals as goal
 
 pub returns-in-Err-clause-carries : goal.returns-in-Err-clause-carries

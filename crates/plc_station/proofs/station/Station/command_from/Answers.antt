@@ -1,6 +1,6 @@
-use Rattle.plc_station.proofs.Carrying.{if_some, at_some}
-use Rattle.plc_station.proofs.Ending.{carried_by}
-use Rattle.plc_station.proofs.Commanding.{command_step}
+use Rattle.plc_station.proofs.CarriedPlans.{if_some, at_some}
+use Rattle.plc_station.proofs.EndedSteps.{carried_by}
+use Rattle.plc_station.proofs.CommandCases.{command_step}
 use Rattle.plc_station.proofs.station.Station.command_from.Goals as goal
 
 pub returns-clause-carries : goal.returns-clause-carries

@@ -4,12 +4,12 @@ use Rattle.node_rules.specs.declared.heard.Heard.TheVariants.{Relayed}
 use Rattle.node_rules.specs.declared.refusal.Dropped.TheVariants.{HopsSpent, CounterSpent}
 use Rattle.node_rules.specs.Memory.{next_hop}
 use Rattle.node_rules.specs.Drafts.{empty_draft, goes}
-use Rattle.node_rules.specs.Hearing.{dropped}
-use Rattle.plc_station.specs.StationReading.{station_in}
-use Rattle.plc_station.proofs.Carrying.{on_memory, at_some}
-use Rattle.plc_station.proofs.Ending.{refusal, carried_by, answered, failed}
+use Rattle.node_rules.specs.HearingRules.{dropped}
+use Rattle.plc_station.specs.StationViews.{station_in}
+use Rattle.plc_station.proofs.CarriedPlans.{on_memory, at_some}
+use Rattle.plc_station.proofs.EndedSteps.{refusal, carried_by, answered, failed}
 use Rattle.plc_station.proofs.Ways.{too_few, enough}
-use Rattle.plc_station.proofs.Forwarding.{no_way, hops_spent, forward_spent, forwarded}
+use Rattle.plc_station.proofs.ForwardCases.{no_way, hops_spent, forward_spent, forwarded}
 use Rattle.plc_station.proofs.station.Station.forward.Goals as goal
 
 pub returns-in_default-clause-carries : goal.returns-in_default-clause-carries

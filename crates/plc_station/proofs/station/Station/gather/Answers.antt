@@ -1,9 +1,9 @@
 use Rattle.std.proofs.Common.{Some, refl, ap, ◌∙◌}
-use Rattle.fragment_buffers.specs.Taking.{taken}
+use Rattle.fragment_buffers.specs.PieceIntake.{taken}
 use Rattle.station_queues.specs.Bodies.{Held}
-use Rattle.plc_station.specs.StationReading.{station_in}
-use Rattle.plc_station.proofs.Carrying.{on_memory, station_is}
-use Rattle.plc_station.proofs.Gathering.{gathered_is, changed, still}
+use Rattle.plc_station.specs.StationViews.{station_in}
+use Rattle.plc_station.proofs.CarriedPlans.{on_memory, station_is}
+use Rattle.plc_station.proofs.GatheredPieces.{gathered_is, changed, still}
 use Rattle.plc_station.proofs.station.Station.gather.Goals as goal
 
 pub returns-clause-carries : goal.returns-clause-carries

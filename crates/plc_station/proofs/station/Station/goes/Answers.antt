@@ -9,12 +9,12 @@ use Rattle.node_rules.specs.Calls.{sending_ends}
 use Rattle.plc_station.specs.OwnLoads.{own_load, own_draft}
 use Rattle.fragment_buffers.specs.Loads.{load_of}
 use Rattle.node_rules.proofs.Sizes.{length-all_go, length-units_of}
-use Rattle.plc_station.specs.StationReading.{station_in}
-use Rattle.plc_station.specs.Sealing.{only_frames}
+use Rattle.plc_station.specs.StationViews.{station_in}
+use Rattle.plc_station.specs.SentFrames.{only_frames}
 use Rattle.node_rules.specs.States.{State}
-use Rattle.plc_station.proofs.Carrying.{on_memory, at_some, lines_are}
-use Rattle.plc_station.proofs.Ending.{ended, stopped, uncounted}
-use Rattle.plc_station.proofs.Tagging.{with_own, own_is, frames_are, untagged}
+use Rattle.plc_station.proofs.CarriedPlans.{on_memory, at_some, lines_are}
+use Rattle.plc_station.proofs.EndedSteps.{ended, stopped, uncounted}
+use Rattle.plc_station.proofs.LoadTags.{with_own, own_is, frames_are, untagged}
 use Rattle.plc_station.proofs.station.Station.goes.Goals as goal
 
 pub returns-in_default-clause-carries : goal.returns-in_default-clause-carries

@@ -1,7 +1,7 @@
 use Rattle.std.proofs.Common.{None}
-use Rattle.plc_station.specs.StationReading.{station_in}
-use Rattle.plc_station.proofs.Carrying.{on_memory, at_some}
-use Rattle.plc_station.proofs.Replying.{of_fresh}
+use Rattle.plc_station.specs.StationViews.{station_in}
+use Rattle.plc_station.proofs.CarriedPlans.{on_memory, at_some}
+use Rattle.plc_station.proofs.SentReplies.{of_fresh}
 use Rattle.plc_station.proofs.station.Station.hear.Goals as goal
 
 pub returns-clause-carries : goal.returns-clause-carries

@@ -2,11 +2,11 @@ use Rattle.std.proofs.Common.{ℕ, Ok, Err, List, ap, ◌∙◌, arith}
 use Rattle.std.proofs.lemmas.Bool.Decides.{nat_tests}
 use Rattle.node_rules.specs.declared.heard.Heard.TheVariants.{Local}
 use Rattle.node_rules.specs.declared.refusal.Dropped.TheVariants.{BadUnit, Store}
-use Rattle.node_rules.specs.Hearing.{dropped}
+use Rattle.node_rules.specs.HearingRules.{dropped}
 use Rattle.node_rules.specs.Plans.{resting}
-use Rattle.plc_station.proofs.Carrying.{if_some, at_some}
-use Rattle.plc_station.proofs.Replying.{refusal_heard, rested_heard, heard_by}
-use Rattle.plc_station.proofs.Listening.{message_bad, message_is, joining_bad, local_is}
+use Rattle.plc_station.proofs.CarriedPlans.{if_some, at_some}
+use Rattle.plc_station.proofs.SentReplies.{refusal_heard, rested_heard, heard_by}
+use Rattle.plc_station.proofs.HearingCases.{message_bad, message_is, joining_bad, local_is}
 use Rattle.plc_station.proofs.station.Station.hear_command.Goals as goal
 
 pub returns-in_default-clause-hears : goal.returns-in_default-clause-hears

@@ -4,12 +4,12 @@ use Rattle.plc_base.specs.Grant.{Granted}
 use Rattle.node_rules.specs.declared.refusal.Dropped.TheVariants.{CounterSpent}
 use Rattle.node_rules.specs.Memory.{next_hop}
 use Rattle.node_rules.specs.Drafts.{empty_draft, with_routing_by}
-use Rattle.node_rules.specs.Hearing.{dropped}
-use Rattle.plc_station.specs.StationReading.{station_in}
-use Rattle.plc_station.proofs.Carrying.{on_memory, at_some}
-use Rattle.plc_station.proofs.Ending.{refusal, carried_by}
+use Rattle.node_rules.specs.HearingRules.{dropped}
+use Rattle.plc_station.specs.StationViews.{station_in}
+use Rattle.plc_station.proofs.CarriedPlans.{on_memory, at_some}
+use Rattle.plc_station.proofs.EndedSteps.{refusal, carried_by}
 use Rattle.plc_station.proofs.Ways.{too_few, enough}
-use Rattle.plc_station.proofs.Losing.{error_here, error_ends, error_spent, error_on}
+use Rattle.plc_station.proofs.ErrorCases.{error_here, error_ends, error_spent, error_on}
 use Rattle.plc_station.proofs.station.Station.hear_error.Goals as goal
 
 pub returns-then-number-clause-carries : goal.returns-then-number-clause-carries

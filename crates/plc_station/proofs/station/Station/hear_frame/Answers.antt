@@ -1,11 +1,11 @@
 use Rattle.std.proofs.Common.{Err, ap, sym, ◌∙◌}
-use Rattle.mesh_header.specs.Reading.{unit_in}
+use Rattle.mesh_header.specs.Reader.{unit_in}
 use Rattle.node_rules.specs.declared.refusal.Dropped.TheVariants.{BadUnit, Store}
-use Rattle.node_rules.specs.Hearing.{dropped}
-use Rattle.plc_station.specs.StationReading.{station_in}
-use Rattle.plc_station.proofs.Carrying.{if_some, on_memory}
-use Rattle.plc_station.proofs.Replying.{refusal_heard, rested_heard}
-use Rattle.plc_station.proofs.Listening.{no_unit, unit_unjoined, up_none, up_some, down_none, down_some}
+use Rattle.node_rules.specs.HearingRules.{dropped}
+use Rattle.plc_station.specs.StationViews.{station_in}
+use Rattle.plc_station.proofs.CarriedPlans.{if_some, on_memory}
+use Rattle.plc_station.proofs.SentReplies.{refusal_heard, rested_heard}
+use Rattle.plc_station.proofs.HearingCases.{no_unit, unit_unjoined, up_none, up_some, down_none, down_some}
 use Rattle.plc_station.proofs.station.Station.hear_frame.Goals as goal
 
 pub returns-in_default-clause-hears : goal.returns-in_default-clause-hears

@@ -1,9 +1,9 @@
 use Rattle.std.proofs.Common.{sym}
 use Rattle.node_rules.specs.declared.refusal.Dropped.TheVariants.{BadUnit}
-use Rattle.node_rules.specs.Hearing.{dropped}
-use Rattle.plc_station.proofs.Carrying.{if_some, at_some}
-use Rattle.plc_station.proofs.Replying.{refusal_heard, heard_by, quiet, errors_quiet}
-use Rattle.plc_station.proofs.Listening.{request_to_one, reply_to_all, error_to_all, error_is}
+use Rattle.node_rules.specs.HearingRules.{dropped}
+use Rattle.plc_station.proofs.CarriedPlans.{if_some, at_some}
+use Rattle.plc_station.proofs.SentReplies.{refusal_heard, heard_by, quiet, errors_quiet}
+use Rattle.plc_station.proofs.HearingCases.{request_to_one, reply_to_all, error_to_all, error_is}
 use Rattle.plc_station.proofs.station.Station.hear_message.Goals as goal
 
 pub returns-then-not-last-clause-hears : goal.returns-then-not-last-clause-hears

@@ -7,11 +7,11 @@ use Rattle.node_rules.specs.declared.heard.Heard.{Heard}
 use Rattle.node_rules.specs.declared.heard.Heard.TheVariants.{Up, Joining}
 use Rattle.node_rules.specs.declared.heard.Way.TheVariants.{Mesh}
 use Rattle.node_rules.specs.declared.refusal.Dropped.TheVariants.{BadUnit, Store}
-use Rattle.node_rules.specs.Hearing.{dropped, forward}
+use Rattle.node_rules.specs.HearingRules.{dropped, forward}
 use Rattle.node_rules.specs.Plans.{resting}
-use Rattle.plc_station.proofs.Carrying.{if_some, at_some}
-use Rattle.plc_station.proofs.Ending.{refusal, rested, carried_by}
-use Rattle.plc_station.proofs.Forwarding.{whole_here, whole_on, part_here, part_on, carried_here, carried_on, local_bad}
+use Rattle.plc_station.proofs.CarriedPlans.{if_some, at_some}
+use Rattle.plc_station.proofs.EndedSteps.{refusal, rested, carried_by}
+use Rattle.plc_station.proofs.ForwardCases.{whole_here, whole_on, part_here, part_on, carried_here, carried_on, local_bad}
 use Rattle.plc_station.proofs.station.Station.hear_over_mesh.Goals as goal
 
 pub returns-then-number-clause-carries : goal.returns-then-number-clause-carries

@@ -3,15 +3,15 @@ use Rattle.std.proofs.lemmas.Result.{err_from_is_err_and}
 use Rattle.node_rules.specs.declared.heard.Heard.TheVariants.{Learned}
 use Rattle.node_rules.specs.declared.refusal.Dropped.TheVariants.{CounterSpent}
 use Rattle.node_rules.specs.Memory.{StationMemory}
-use Rattle.node_rules.specs.Hearing.{dropped, offers, learns}
+use Rattle.node_rules.specs.HearingRules.{dropped, offers, learns}
 use Rattle.plc_station.specs.Offers.{offered_rank}
-use Rattle.plc_station.specs.StationReading.{station_in}
+use Rattle.plc_station.specs.StationViews.{station_in}
 use Rattle.node_rules.specs.States.{State}
-use Rattle.plc_station.proofs.Carrying.{if_some, on_memory, at_some}
-use Rattle.plc_station.proofs.Ending.{refusal, carried_by, answered, failed}
+use Rattle.plc_station.proofs.CarriedPlans.{if_some, on_memory, at_some}
+use Rattle.plc_station.proofs.EndedSteps.{refusal, carried_by, answered, failed}
 use Rattle.plc_station.proofs.Ways.{too_few, enough}
-use Rattle.plc_station.proofs.Offering.{not_taken}
-use Rattle.plc_station.proofs.Learning.{learn_spent, learning}
+use Rattle.plc_station.proofs.OfferCases.{not_taken}
+use Rattle.plc_station.proofs.ReplyCases.{learn_spent, learning}
 use Rattle.plc_station.proofs.station.Station.hear_own_reply.Goals as goal
 
 pub returns-in_err-offer-clause-carries : goal.returns-in_err-offer-clause-carries

@@ -4,11 +4,11 @@ use Rattle.std.proofs.lemmas.Bool.Decides.{nat_tests}
 use Rattle.plc_base.specs.Grant.{Granted}
 use Rattle.node_rules.specs.declared.refusal.Dropped.TheVariants.{NoRoute}
 use Rattle.node_rules.specs.Memory.{next_hop}
-use Rattle.node_rules.specs.Hearing.{dropped}
-use Rattle.plc_station.specs.StationReading.{station_in}
-use Rattle.plc_station.proofs.Carrying.{on_memory, if_some, at_some}
-use Rattle.plc_station.proofs.Replying.{refusal_heard, heard_by, quiet, learned_quiet}
-use Rattle.plc_station.proofs.Learning.{reply_here, reply_lost, reply_on}
+use Rattle.node_rules.specs.HearingRules.{dropped}
+use Rattle.plc_station.specs.StationViews.{station_in}
+use Rattle.plc_station.proofs.CarriedPlans.{on_memory, if_some, at_some}
+use Rattle.plc_station.proofs.SentReplies.{refusal_heard, heard_by, quiet, learned_quiet}
+use Rattle.plc_station.proofs.ReplyCases.{reply_here, reply_lost, reply_on}
 use Rattle.plc_station.proofs.station.Station.hear_reply.Goals as goal
 
 pub returns-then-number-clause-hears : goal.returns-then-number-clause-hears

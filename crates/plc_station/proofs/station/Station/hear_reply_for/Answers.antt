@@ -5,15 +5,15 @@ use Rattle.node_rules.specs.declared.heard.Heard.TheVariants.{Relayed}
 use Rattle.node_rules.specs.declared.refusal.Dropped.TheVariants.{CounterSpent}
 use Rattle.node_rules.specs.Memory.{StationMemory}
 use Rattle.node_rules.specs.Drafts.{send_message}
-use Rattle.node_rules.specs.Hearing.{dropped, offers, passes_on}
+use Rattle.node_rules.specs.HearingRules.{dropped, offers, passes_on}
 use Rattle.plc_station.specs.Offers.{offered_rank}
-use Rattle.plc_station.specs.StationReading.{station_in}
+use Rattle.plc_station.specs.StationViews.{station_in}
 use Rattle.node_rules.specs.States.{State}
-use Rattle.plc_station.proofs.Carrying.{if_some, on_memory, at_some}
-use Rattle.plc_station.proofs.Replying.{refusal_heard, heard_by, answered_heard, failed_heard}
+use Rattle.plc_station.proofs.CarriedPlans.{if_some, on_memory, at_some}
+use Rattle.plc_station.proofs.SentReplies.{refusal_heard, heard_by, answered_heard, failed_heard}
 use Rattle.plc_station.proofs.Ways.{too_few, enough}
-use Rattle.plc_station.proofs.Offering.{not_taken}
-use Rattle.plc_station.proofs.Learning.{pass_spent, passing}
+use Rattle.plc_station.proofs.OfferCases.{not_taken}
+use Rattle.plc_station.proofs.ReplyCases.{pass_spent, passing}
 use Rattle.plc_station.proofs.station.Station.hear_reply_for.Goals as goal
 
 pub returns-in_err-offer-clause-hears : goal.returns-in_err-offer-clause-hears

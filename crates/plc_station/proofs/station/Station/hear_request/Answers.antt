@@ -7,15 +7,15 @@ use Rattle.node_rules.specs.declared.heard.Heard.TheVariants.{Answered, Relayed}
 use Rattle.node_rules.specs.declared.refusal.Dropped.TheVariants.{SeqSpent, CounterSpent}
 use Rattle.node_rules.specs.Memory.{StationMemory}
 use Rattle.node_rules.specs.Drafts.{choose, send_message, numbers_spent}
-use Rattle.node_rules.specs.Hearing.{answers, drop_it, dropped, offers, offers_numbered, sends_on}
+use Rattle.node_rules.specs.HearingRules.{answers, drop_it, dropped, offers, offers_numbered, sends_on}
 use Rattle.std.specs.Prelude.{◌==◌}
 use Rattle.plc_station.specs.Offers.{offered_rank}
-use Rattle.plc_station.specs.StationReading.{station_in}
+use Rattle.plc_station.specs.StationViews.{station_in}
 use Rattle.node_rules.specs.States.{State}
-use Rattle.plc_station.proofs.Carrying.{if_some, on_memory, at_some}
-use Rattle.plc_station.proofs.Replying.{refusal_heard, heard_by, answered_heard, failed_heard, sent_on_kept}
+use Rattle.plc_station.proofs.CarriedPlans.{if_some, on_memory, at_some}
+use Rattle.plc_station.proofs.SentReplies.{refusal_heard, heard_by, answered_heard, failed_heard, sent_on_kept}
 use Rattle.plc_station.proofs.Ways.{too_few, enough}
-use Rattle.plc_station.proofs.Offering.{not_taken}
+use Rattle.plc_station.proofs.OfferCases.{not_taken}
 use Rattle.plc_station.proofs.Requests.{seq_spent, answer_spent, answering, relay_spent, relaying}
 use Rattle.plc_station.proofs.station.Station.hear_request.Goals as goal
 

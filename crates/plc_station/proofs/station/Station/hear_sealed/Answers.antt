@@ -1,9 +1,9 @@
 use Rattle.std.proofs.Common.{sym}
 use Rattle.node_rules.specs.declared.refusal.Dropped.TheVariants.{BadUnit}
-use Rattle.node_rules.specs.Hearing.{dropped}
-use Rattle.plc_station.proofs.Carrying.{if_some, at_some}
-use Rattle.plc_station.proofs.Replying.{refusal_heard, heard_by, quiet, over_mesh_quiet}
-use Rattle.plc_station.proofs.Listening.{mesh_all, mesh_one}
+use Rattle.node_rules.specs.HearingRules.{dropped}
+use Rattle.plc_station.proofs.CarriedPlans.{if_some, at_some}
+use Rattle.plc_station.proofs.SentReplies.{refusal_heard, heard_by, quiet, over_mesh_quiet}
+use Rattle.plc_station.proofs.HearingCases.{mesh_all, mesh_one}
 use Rattle.plc_station.proofs.station.Station.hear_sealed.Goals as goal
 
 pub returns-then-last-clause-hears : goal.returns-then-last-clause-hears

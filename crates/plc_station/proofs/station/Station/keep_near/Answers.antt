@@ -2,9 +2,9 @@ use Rattle.std.proofs.Common.{refl}
 use Rattle.node_rules.specs.Drafts.{empty_draft, with_rank}
 use Rattle.node_rules.specs.Calls.{presetting_ends, near_rank}
 use Rattle.node_rules.specs.Agreement.{AgreesWith}
-use Rattle.plc_station.specs.StationReading.{station_in}
-use Rattle.plc_station.proofs.Carrying.{at_some, on_memory, lines_are}
-use Rattle.plc_station.proofs.Ending.{settled, stopped}
+use Rattle.plc_station.specs.StationViews.{station_in}
+use Rattle.plc_station.proofs.CarriedPlans.{at_some, on_memory, lines_are}
+use Rattle.plc_station.proofs.EndedSteps.{settled, stopped}
 use Rattle.plc_station.proofs.station.Station.keep_near.Goals as goal
 
 pub returns-in_default-clause-carries : goal.returns-in_default-clause-carries

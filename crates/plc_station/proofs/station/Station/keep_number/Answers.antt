@@ -2,7 +2,7 @@ use Rattle.std.proofs.Common.{true, false, refl}
 use Rattle.routing_set.specs.OwnNumber.{limit_write}
 use Rattle.store_tables.proofs.WritesLemmas.{wrote_one}
 use Rattle.node_rules.specs.Plans.{resting}
-use Rattle.plc_station.proofs.Carrying.{on_memory, lines_are}
+use Rattle.plc_station.proofs.CarriedPlans.{on_memory, lines_are}
 use Rattle.plc_station.proofs.station.Station.keep_number.Goals as goal
 
 pub returns-in_default-clause-carries : goal.returns-in_default-clause-carries

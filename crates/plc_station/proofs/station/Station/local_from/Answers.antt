@@ -1,8 +1,8 @@
 use Rattle.std.proofs.Common.{arith}
 use Rattle.node_rules.specs.declared.refusal.LocalRefusal.TheVariants.{CounterSpent}
 use Rattle.node_rules.specs.Neighbours.{local_ends}
-use Rattle.plc_station.specs.StationReading.{station_in}
-use Rattle.plc_station.proofs.Carrying.{on_memory, at_some}
+use Rattle.plc_station.specs.StationViews.{station_in}
+use Rattle.plc_station.proofs.CarriedPlans.{on_memory, at_some}
 use Rattle.plc_station.proofs.Ways.{too_few, enough}
 use Rattle.plc_station.proofs.Beside.{after_by, refusal_after}
 use Rattle.plc_station.proofs.Locals.{local_spent, local_sent}

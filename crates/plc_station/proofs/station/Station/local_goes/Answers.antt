@@ -9,9 +9,9 @@ use Rattle.node_rules.specs.Memory.{StationMemory}
 use Rattle.node_rules.specs.Drafts.{empty_draft, goes, sealed_by}
 use Rattle.node_rules.specs.Neighbours.{local_ends}
 use Rattle.node_rules.specs.States.{State}
-use Rattle.plc_station.specs.StationReading.{station_in}
-use Rattle.plc_station.proofs.Carrying.{on_memory, at_some, lines_are}
-use Rattle.plc_station.proofs.Ending.{ended, uncounted, sent, unsent}
+use Rattle.plc_station.specs.StationViews.{station_in}
+use Rattle.plc_station.proofs.CarriedPlans.{on_memory, at_some, lines_are}
+use Rattle.plc_station.proofs.EndedSteps.{ended, uncounted, sent, unsent}
 use Rattle.plc_station.proofs.Sealed.{one_sent}
 use Rattle.plc_station.proofs.Beside.{followed_by}
 use Rattle.plc_station.proofs.station.Station.local_goes.Goals as goal

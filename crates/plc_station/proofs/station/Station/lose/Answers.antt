@@ -2,14 +2,14 @@ use Rattle.std.proofs.Common.{Some, refl, ap, ◌∙◌}
 use Rattle.std.specs.Prelude.{IfSome}
 use Rattle.node_rules.specs.declared.heard.Heard.TheVariants.{Broken}
 use Rattle.node_rules.specs.Drafts.{empty_draft, with_routing_by}
-use Rattle.node_rules.specs.Hearing.{dropped, loses}
+use Rattle.node_rules.specs.HearingRules.{dropped, loses}
 use Rattle.node_rules.specs.Agreement.{AgreesWith}
-use Rattle.plc_station.specs.StationReading.{station_in}
+use Rattle.plc_station.specs.StationViews.{station_in}
 use Rattle.node_rules.specs.States.{unless_halted}
-use Rattle.plc_station.proofs.Carrying.{at_some, on_memory, of_some, station_is}
-use Rattle.plc_station.proofs.Agreeing.{agrees_routed}
-use Rattle.plc_station.proofs.Ending.{unsealed}
-use Rattle.plc_station.proofs.Gathering.{still}
+use Rattle.plc_station.proofs.CarriedPlans.{at_some, on_memory, of_some, station_is}
+use Rattle.plc_station.proofs.Agreement.{agrees_routed}
+use Rattle.plc_station.proofs.EndedSteps.{unsealed}
+use Rattle.plc_station.proofs.GatheredPieces.{still}
 use Rattle.plc_station.proofs.station.Station.lose.Goals as goal
 
 pub returns-clause-carries : goal.returns-clause-carries

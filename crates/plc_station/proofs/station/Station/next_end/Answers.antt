@@ -1,8 +1,8 @@
 use Rattle.std.proofs.Common.{Option, ℕ, sym, subst}
 use Rattle.node_rules.specs.Calls as calls
 use Rattle.plc_station.specs.NextEnds.{IsFirstEnd}
-use Rattle.plc_station.specs.StationReading.{station_in}
-use Rattle.plc_station.proofs.Carrying.{on_memory}
+use Rattle.plc_station.specs.StationViews.{station_in}
+use Rattle.plc_station.proofs.CarriedPlans.{on_memory}
 use Rattle.plc_station.proofs.NextEnds.{is_first}
 use Rattle.plc_station.proofs.station.Station.next_end.Goals as goal
 

@@ -1,10 +1,10 @@
 use Rattle.std.proofs.Common.{arith}
 use Rattle.std.proofs.lemmas.Bool.Decides.{nat_tests}
 use Rattle.node_rules.specs.Memory.{next_hop}
-use Rattle.plc_station.specs.StationReading.{station_in}
-use Rattle.plc_station.proofs.Carrying.{on_memory}
+use Rattle.plc_station.specs.StationViews.{station_in}
+use Rattle.plc_station.proofs.CarriedPlans.{on_memory}
 use Rattle.plc_station.proofs.Ways.{too_few, enough}
-use Rattle.plc_station.proofs.Stepping.{step_is, goes_spent, goes, full, waits, numbers, seeks_spent, seeks}
+use Rattle.plc_station.proofs.NextStepCases.{step_is, goes_spent, goes, full, waits, numbers, seeks_spent, seeks}
 use Rattle.plc_station.proofs.station.Station.next_step.Goals as goal
 
 pub returns-then-left-frames-clause-step : goal.returns-then-left-frames-clause-step

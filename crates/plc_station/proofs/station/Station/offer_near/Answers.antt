@@ -2,10 +2,10 @@ use Rattle.std.proofs.Common.{refl, ap, ◌∙◌}
 use Rattle.node_rules.specs.declared.refusal.PresetFault.TheVariants as presets
 use Rattle.routing_set.specs.RoutingSet.{is_better}
 use Rattle.node_rules.specs.Calls.{presetting_ends, near_rank}
-use Rattle.plc_station.specs.StationReading.{station_in}
-use Rattle.plc_station.proofs.Carrying.{on_memory, at_some}
-use Rattle.plc_station.proofs.Ending.{refusal, carried_by}
-use Rattle.plc_station.proofs.Setting.{near_worse, near_full, near_kept}
+use Rattle.plc_station.specs.StationViews.{station_in}
+use Rattle.plc_station.proofs.CarriedPlans.{on_memory, at_some}
+use Rattle.plc_station.proofs.EndedSteps.{refusal, carried_by}
+use Rattle.plc_station.proofs.RingCases.{near_worse, near_full, near_kept}
 use Rattle.plc_station.proofs.station.Station.offer_near.Goals as goal
 
 pub returns-then-not-is_better-clause-carries : goal.returns-then-not-is_better-clause-carries

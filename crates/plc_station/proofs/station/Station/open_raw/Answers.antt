@@ -1,12 +1,12 @@
 use Rattle.std.proofs.Common.{Ok, Err, ap, sym, ◌∙◌}
 use Rattle.node_rules.specs.declared.heard.Path.TheVariants as paths
 use Rattle.node_rules.specs.declared.refusal.FrameRefusal.TheVariants.{Store}
-use Rattle.node_rules.specs.Accepting.{accept_head}
+use Rattle.node_rules.specs.Acceptance.{accept_head}
 use Rattle.node_rules.specs.Ciphers.{network}
 use Rattle.node_rules.specs.Frames.{Arrived, arrived_with}
 use Rattle.node_rules.specs.Plans.{resting}
-use Rattle.plc_station.proofs.Carrying.{if_some, at_some}
-use Rattle.plc_station.proofs.Accepting.{not_for_me, plain_accepted}
+use Rattle.plc_station.proofs.CarriedPlans.{if_some, at_some}
+use Rattle.plc_station.proofs.Acceptance.{not_for_me, plain_accepted}
 use Rattle.plc_station.proofs.station.Station.open_raw.Goals as goal
 
 pub returns-then-not-is_for_me-clause-carries : goal.returns-then-not-is_for_me-clause-carries

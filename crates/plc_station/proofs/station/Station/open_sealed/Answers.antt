@@ -1,8 +1,8 @@
 use Rattle.node_rules.specs.Ciphers.{network}
 use Rattle.node_rules.specs.Frames.{arrived_with}
-use Rattle.plc_station.specs.StationReading.{station_in}
-use Rattle.plc_station.proofs.Carrying.{on_memory}
-use Rattle.plc_station.proofs.Accepting.{key_missing, tag_wrong}
+use Rattle.plc_station.specs.StationViews.{station_in}
+use Rattle.plc_station.proofs.CarriedPlans.{on_memory}
+use Rattle.plc_station.proofs.Acceptance.{key_missing, tag_wrong}
 use Rattle.plc_station.proofs.station.Station.open_sealed.Goals as goal
 
 pub returns-in_default-clause-carries : goal.returns-in_default-clause-carries

@@ -9,14 +9,14 @@ use Rattle.node_rules.specs.Ciphers.{network}
 use Rattle.node_rules.specs.Frames.{spelled}
 use Rattle.node_rules.specs.Memory.{StationMemory}
 use Rattle.node_rules.specs.Drafts.{empty_draft, goes, send_message, with_routing_by, sealed_by}
-use Rattle.node_rules.specs.Hearing.{dropped, loses}
+use Rattle.node_rules.specs.HearingRules.{dropped, loses}
 use Rattle.node_rules.specs.Agreement.{AgreesWith}
-use Rattle.plc_station.specs.StationReading.{station_in}
-use Rattle.plc_station.specs.Sealing.{only_frames}
+use Rattle.plc_station.specs.StationViews.{station_in}
+use Rattle.plc_station.specs.SentFrames.{only_frames}
 use Rattle.node_rules.specs.States.{State, unless_halted}
-use Rattle.plc_station.proofs.Carrying.{on_memory, at_some, of_some, lines_are}
-use Rattle.plc_station.proofs.Agreeing.{agrees_counted, agrees_routed}
-use Rattle.plc_station.proofs.Ending.{ended, uncounted}
+use Rattle.plc_station.proofs.CarriedPlans.{on_memory, at_some, of_some, lines_are}
+use Rattle.plc_station.proofs.Agreement.{agrees_counted, agrees_routed}
+use Rattle.plc_station.proofs.EndedSteps.{ended, uncounted}
 use Rattle.plc_station.proofs.station.Station.pass_error_on.Goals as goal
 
 pub returns-in_default-clause-carries : goal.returns-in_default-clause-carries

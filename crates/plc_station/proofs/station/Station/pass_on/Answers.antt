@@ -2,9 +2,9 @@ use Rattle.std.proofs.Common.{Some, ◌∙◌}
 use Rattle.std.proofs.lemmas.Result.{err_from_is_err_and}
 use Rattle.loadng_messages.specs.declared.message.Message.TheVariants.{Rrep}
 use Rattle.node_rules.specs.Drafts.{send_message}
-use Rattle.node_rules.specs.Hearing.{dropped, offers}
-use Rattle.plc_station.proofs.Carrying.{if_some, at_some}
-use Rattle.plc_station.proofs.Replying.{kept_done, kept_failed, passed_goes, restated}
+use Rattle.node_rules.specs.HearingRules.{dropped, offers}
+use Rattle.plc_station.proofs.CarriedPlans.{if_some, at_some}
+use Rattle.plc_station.proofs.SentReplies.{kept_done, kept_failed, passed_goes, restated}
 use Rattle.plc_station.proofs.station.Station.pass_on.Goals as goal
 
 pub returns-in_err-relay-clause-carries : goal.returns-in_err-relay-clause-carries

@@ -1,5 +1,5 @@
 use Rattle.std.proofs.Common.{Ok, Err, refl}
-use Rattle.plc_station.proofs.Carrying.{if_some, at_some}
+use Rattle.plc_station.proofs.CarriedPlans.{if_some, at_some}
 use Rattle.plc_station.proofs.station.Station.receive.Goals as goal
 
 pub returns-in-Ok-clause-received : goal.returns-in-Ok-clause-received

@@ -6,19 +6,19 @@ use Rattle.node_rules.specs.Ciphers.{network}
 use Rattle.node_rules.specs.Frames.{spelled}
 use Rattle.node_rules.specs.Memory.{StationMemory}
 use Rattle.node_rules.specs.Drafts.{empty_draft, goes, leave, with_own_number, with_rank, send_message, sealed_by}
-use Rattle.node_rules.specs.Hearing.{dropped, offers}
+use Rattle.node_rules.specs.HearingRules.{dropped, offers}
 use Rattle.station_queues.specs.Bodies.{Held}
-use Rattle.fragment_buffers.specs.Waiting.{leaving}
+use Rattle.fragment_buffers.specs.WaitingBodies.{leaving}
 use Rattle.node_rules.specs.Agreement.{AgreesWith}
 use Rattle.plc_station.specs.Offers.{CanBeKept}
-use Rattle.plc_station.specs.StationReading.{station_in}
-use Rattle.plc_station.specs.Sealing.{only_frames}
+use Rattle.plc_station.specs.StationViews.{station_in}
+use Rattle.plc_station.specs.SentFrames.{only_frames}
 use Rattle.node_rules.specs.States.{State}
-use Rattle.plc_station.proofs.Carrying.{on_memory, at_some, of_some, lines_are}
+use Rattle.plc_station.proofs.CarriedPlans.{on_memory, at_some, of_some, lines_are}
 use Rattle.std.specs.Prelude.{IfSome}
 use Rattle.node_rules.specs.States.{unless_halted}
-use Rattle.plc_station.proofs.Agreeing.{agrees_counted, agrees_ranked, agrees_holding}
-use Rattle.plc_station.proofs.Ending.{ended, stopped, uncounted}
+use Rattle.plc_station.proofs.Agreement.{agrees_counted, agrees_ranked, agrees_holding}
+use Rattle.plc_station.proofs.EndedSteps.{ended, stopped, uncounted}
 use Rattle.plc_station.proofs.station.Station.relay.Goals as goal
 
 pub keep-requires-clause-valid : goal.keep-requires-clause-valid

@@ -6,12 +6,12 @@ use Rattle.node_rules.specs.declared.heard.Heard.TheVariants.{Reported}
 use Rattle.node_rules.specs.declared.refusal.Dropped.TheVariants.{NoRoute, CounterSpent}
 use Rattle.node_rules.specs.Memory.{next_hop}
 use Rattle.node_rules.specs.Drafts.{empty_draft, send_message}
-use Rattle.node_rules.specs.Hearing.{dropped}
-use Rattle.plc_station.specs.StationReading.{station_in}
-use Rattle.plc_station.proofs.Carrying.{if_some, on_memory, at_some}
-use Rattle.plc_station.proofs.Ending.{refusal, carried_by, answered, failed}
+use Rattle.node_rules.specs.HearingRules.{dropped}
+use Rattle.plc_station.specs.StationViews.{station_in}
+use Rattle.plc_station.proofs.CarriedPlans.{if_some, on_memory, at_some}
+use Rattle.plc_station.proofs.EndedSteps.{refusal, carried_by, answered, failed}
 use Rattle.plc_station.proofs.Ways.{too_few, enough}
-use Rattle.plc_station.proofs.Forwarding.{own_lost, origin_lost, report_spent, reported}
+use Rattle.plc_station.proofs.ForwardCases.{own_lost, origin_lost, report_spent, reported}
 use Rattle.plc_station.proofs.station.Station.report.Goals as goal
 
 pub returns-then-number-clause-carries : goal.returns-then-number-clause-carries

@@ -5,10 +5,10 @@ use Rattle.frame_counters.specs.PeerMarks.{peers}
 use Rattle.routing_set.specs.RoutingSet.{ranks}
 use Rattle.node_rules.specs.Memory.{StationMemory}
 use Rattle.station_queues.specs.Bodies.{Held}
-use Rattle.plc_station.specs.StationReading.{station_in}
+use Rattle.plc_station.specs.StationViews.{station_in}
 use Rattle.node_rules.specs.Agreement.{AgreesWith}
 use Rattle.node_rules.specs.States.{State}
-use Rattle.plc_station.proofs.Agreeing.{gapless_kept}
+use Rattle.plc_station.proofs.Agreement.{gapless_kept}
 use Rattle.plc_station.proofs.station.Station.restart.Goals as goal
 
 pub returns-clause-agrees : goal.returns-clause-agrees

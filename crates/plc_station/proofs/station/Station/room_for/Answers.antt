@@ -1,7 +1,7 @@
 use Rattle.std.proofs.Common.{ap, ◌∙◌}
 use Rattle.plc_station.specs.NextSteps.{next_step, step_answer}
-use Rattle.plc_station.proofs.Carrying.{if_some, at_some}
-use Rattle.plc_station.proofs.Commanding.{room_step}
+use Rattle.plc_station.proofs.CarriedPlans.{if_some, at_some}
+use Rattle.plc_station.proofs.CommandCases.{room_step}
 use Rattle.plc_station.proofs.station.Station.room_for.Goals as goal
 
 pub returns : goal.returns

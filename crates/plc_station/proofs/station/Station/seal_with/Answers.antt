@@ -1,10 +1,10 @@
 use Rattle.std.proofs.Common.{inl, refl}
 use Rattle.node_rules.specs.declared.refusal.RingRefusal.TheVariants.{NotHeld}
 use Rattle.node_rules.specs.Calls.{ringing_ends}
-use Rattle.plc_station.specs.StationReading.{station_in}
-use Rattle.plc_station.proofs.Carrying.{on_memory, at_some}
-use Rattle.plc_station.proofs.Ending.{refusal, carried_by}
-use Rattle.plc_station.proofs.Setting.{not_held, held}
+use Rattle.plc_station.specs.StationViews.{station_in}
+use Rattle.plc_station.proofs.CarriedPlans.{on_memory, at_some}
+use Rattle.plc_station.proofs.EndedSteps.{refusal, carried_by}
+use Rattle.plc_station.proofs.RingCases.{not_held, held}
 use Rattle.plc_station.proofs.station.Station.seal_with.Goals as goal
 
 pub returns-in_default-clause-carries : goal.returns-in_default-clause-carries

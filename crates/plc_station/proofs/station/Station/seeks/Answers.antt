@@ -9,15 +9,15 @@ use Rattle.node_rules.specs.Calls.{sending_ends}
 use Rattle.plc_station.specs.OwnLoads.{own_load, own_draft}
 use Rattle.fragment_buffers.specs.Loads.{load_of}
 use Rattle.station_queues.specs.Bodies.{Held}
-use Rattle.plc_station.specs.StationReading.{station_in}
-use Rattle.plc_station.specs.Sealing.{only_frames}
+use Rattle.plc_station.specs.StationViews.{station_in}
+use Rattle.plc_station.specs.SentFrames.{only_frames}
 use Rattle.node_rules.specs.States.{State, unless_halted}
-use Rattle.plc_station.proofs.Carrying.{on_memory, of_some, at_some, lines_are}
-use Rattle.plc_station.proofs.Agreeing.{agrees_tagged, agrees_numbered, agrees_counted, agrees_holding}
+use Rattle.plc_station.proofs.CarriedPlans.{on_memory, of_some, at_some, lines_are}
+use Rattle.plc_station.proofs.Agreement.{agrees_tagged, agrees_numbered, agrees_counted, agrees_holding}
 use Rattle.node_rules.specs.Agreement.{AgreesWith}
 use Rattle.std.specs.Prelude.{IfSome}
-use Rattle.plc_station.proofs.Ending.{ended, stopped, uncounted}
-use Rattle.plc_station.proofs.Tagging.{with_own, own_is, untagged}
+use Rattle.plc_station.proofs.EndedSteps.{ended, stopped, uncounted}
+use Rattle.plc_station.proofs.LoadTags.{with_own, own_is, untagged}
 use Rattle.loadng_messages.specs.Grammar as messages
 use Rattle.loadng_messages.specs.declared.message.Message.TheVariants.{Rreq}
 use Rattle.mesh_header.specs.declared.unit.Unit.TheVariants.{Local}

@@ -1,6 +1,6 @@
 use Rattle.node_rules.specs.declared.refusal.SendRefusal.TheVariants.{NotJoined}
-use Rattle.plc_station.specs.StationReading.{station_in}
-use Rattle.plc_station.proofs.Carrying.{on_memory}
+use Rattle.plc_station.specs.StationViews.{station_in}
+use Rattle.plc_station.proofs.CarriedPlans.{on_memory}
 use Rattle.plc_station.proofs.Ways.{refused_as, not_joined}
 use Rattle.plc_station.proofs.station.Station.send.Goals as goal
 

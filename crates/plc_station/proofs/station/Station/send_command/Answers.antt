@@ -1,9 +1,9 @@
 use Rattle.node_rules.specs.declared.refusal.SendRefusal.TheVariants.{NotJoined}
 use Rattle.node_rules.specs.Calls.{sending_ends}
-use Rattle.plc_station.specs.StationReading.{station_in}
-use Rattle.plc_station.proofs.Carrying.{on_memory}
-use Rattle.plc_station.proofs.Ending.{refusal}
-use Rattle.plc_station.proofs.Commanding as ways
+use Rattle.plc_station.specs.StationViews.{station_in}
+use Rattle.plc_station.proofs.CarriedPlans.{on_memory}
+use Rattle.plc_station.proofs.EndedSteps.{refusal}
+use Rattle.plc_station.proofs.CommandCases as ways
 use Rattle.plc_station.proofs.station.Station.send_command.Goals as goal
 
 pub returns-in_default-clause-carries : goal.returns-in_default-clause-carries

@@ -1,5 +1,5 @@
 use Rattle.node_rules.specs.declared.refusal.SendRefusal.TheVariants.{BadSize, ToSelf}
-use Rattle.plc_station.proofs.Carrying.{if_some, at_some}
+use Rattle.plc_station.proofs.CarriedPlans.{if_some, at_some}
 use Rattle.plc_station.proofs.Ways.{bad_size, to_self, send_step, refused_as, carried_as}
 use Rattle.plc_station.proofs.station.Station.send_from.Goals as goal
 

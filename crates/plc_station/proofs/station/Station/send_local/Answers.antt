@@ -1,7 +1,7 @@
 use Rattle.std.proofs.Common.{refl}
-use Rattle.plc_station.specs.StationReading.{station_in}
-use Rattle.plc_station.proofs.Carrying.{on_memory, at_some}
-use Rattle.plc_station.proofs.Setting.{no_ring, a_ring}
+use Rattle.plc_station.specs.StationViews.{station_in}
+use Rattle.plc_station.proofs.CarriedPlans.{on_memory, at_some}
+use Rattle.plc_station.proofs.RingCases.{no_ring, a_ring}
 use Rattle.plc_station.proofs.station.Station.send_local.Goals as goal
 
 pub returns-in_default-clause-unjoined : goal.returns-in_default-clause-unjoined

@@ -4,13 +4,13 @@ use Rattle.node_rules.specs.Ciphers.{network}
 use Rattle.node_rules.specs.Frames.{spelled}
 use Rattle.node_rules.specs.Memory.{StationMemory}
 use Rattle.node_rules.specs.Drafts.{empty_draft, goes, sealed_by}
-use Rattle.node_rules.specs.Hearing.{dropped}
-use Rattle.plc_station.specs.StationReading.{station_in}
-use Rattle.plc_station.specs.Sealing.{only_frames}
+use Rattle.node_rules.specs.HearingRules.{dropped}
+use Rattle.plc_station.specs.StationViews.{station_in}
+use Rattle.plc_station.specs.SentFrames.{only_frames}
 use Rattle.station_queues.specs.Frames.{unit_frame}
 use Rattle.node_rules.specs.States.{State}
-use Rattle.plc_station.proofs.Carrying.{on_memory, at_some, lines_are}
-use Rattle.plc_station.proofs.Ending.{ended, uncounted}
+use Rattle.plc_station.proofs.CarriedPlans.{on_memory, at_some, lines_are}
+use Rattle.plc_station.proofs.EndedSteps.{ended, uncounted}
 use Rattle.plc_station.proofs.Sealed.{one_sent}
 use Rattle.plc_station.proofs.station.Station.send_unit.Goals as goal
 

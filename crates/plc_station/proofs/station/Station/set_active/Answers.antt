@@ -6,11 +6,11 @@ use Rattle.group_keys.specs.KeyRing.{ring_write, with_active}
 use Rattle.node_rules.specs.Drafts.{empty_draft, with_ring}
 use Rattle.node_rules.specs.Calls.{ringing_ends}
 use Rattle.node_rules.specs.Agreement.{AgreesWith}
-use Rattle.plc_station.specs.StationReading.{station_in}
+use Rattle.plc_station.specs.StationViews.{station_in}
 use Rattle.node_rules.specs.States.{unless_halted}
-use Rattle.plc_station.proofs.Carrying.{at_some, on_memory, of_some, lines_are}
-use Rattle.plc_station.proofs.Agreeing.{agrees_ringed}
-use Rattle.plc_station.proofs.Ending.{settled, stopped}
+use Rattle.plc_station.proofs.CarriedPlans.{at_some, on_memory, of_some, lines_are}
+use Rattle.plc_station.proofs.Agreement.{agrees_ringed}
+use Rattle.plc_station.proofs.EndedSteps.{settled, stopped}
 use Rattle.plc_station.proofs.station.Station.set_active.Goals as goal
 
 pub returns-in_default-clause-carries : goal.returns-in_default-clause-carries

@@ -2,7 +2,7 @@ use Rattle.std.proofs.Common.{Ok, Err, length, sym, ap, subst, ◌∙◌}
 use Rattle.std.proofs.lemmas.Result.{err_from_is_err_and}
 use Rattle.plc_station.specs.NextSteps.{CanStep, stepping}
 use Rattle.plc_station.specs.OwnLoads.{own_load, own_frames, own_draft}
-use Rattle.plc_station.proofs.Carrying.{if_some, at_some}
+use Rattle.plc_station.proofs.CarriedPlans.{if_some, at_some}
 use Rattle.plc_station.proofs.Ways.{refused_as, carried_as}
 use Rattle.plc_station.proofs.station.Station.sets_out.Goals as goal
 

@@ -2,9 +2,9 @@ use Rattle.std.proofs.Common.{sym, ap, ◌∙◌}
 use Rattle.node_rules.specs.Memory.{StationMemory}
 use Rattle.node_rules.specs.States.{State}
 use Rattle.plc_station.specs.Offers.{offered_rank}
-use Rattle.plc_station.specs.StationReading.{station_in}
-use Rattle.plc_station.proofs.Carrying.{if_some, on_memory, at_some}
-use Rattle.plc_station.proofs.Offering.{no_better, costs_more, no_place, no_fault, big, small}
+use Rattle.plc_station.specs.StationViews.{station_in}
+use Rattle.plc_station.proofs.CarriedPlans.{if_some, on_memory, at_some}
+use Rattle.plc_station.proofs.OfferCases.{no_better, costs_more, no_place, no_fault, big, small}
 use Rattle.plc_station.proofs.station.Station.take_offer.Goals as goal
 
 pub returns-then-is_no_better-clause-fault : goal.returns-then-is_no_better-clause-fault

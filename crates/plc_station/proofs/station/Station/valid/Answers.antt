@@ -1,7 +1,7 @@
 use Rattle.std.proofs.Common.{sym, ap, ◌∙◌}
 use Rattle.routing_set.specs.declared.rank.Rank.{Rank}
-use Rattle.plc_station.specs.StationReading.{station_in}
-use Rattle.plc_station.proofs.Carrying.{on_memory}
+use Rattle.plc_station.specs.StationViews.{station_in}
+use Rattle.plc_station.proofs.CarriedPlans.{on_memory}
 use Rattle.plc_station.proofs.Shows.{no_route, has_route}
 use Rattle.plc_station.proofs.station.Station.valid.Goals as goal
 

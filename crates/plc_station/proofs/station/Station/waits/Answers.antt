@@ -7,10 +7,10 @@ use Rattle.plc_station.specs.OwnLoads.{own_load, own_draft}
 use Rattle.fragment_buffers.specs.Loads.{load_of}
 use Rattle.node_rules.specs.Agreement.{AgreesWith}
 use Rattle.station_queues.specs.Bodies.{Held}
-use Rattle.plc_station.specs.StationReading.{station_in}
-use Rattle.plc_station.proofs.Carrying.{at_some, on_memory, lines_are}
-use Rattle.plc_station.proofs.Ending.{settled, stopped}
-use Rattle.plc_station.proofs.Tagging.{with_own, own_is, untagged}
+use Rattle.plc_station.specs.StationViews.{station_in}
+use Rattle.plc_station.proofs.CarriedPlans.{at_some, on_memory, lines_are}
+use Rattle.plc_station.proofs.EndedSteps.{settled, stopped}
+use Rattle.plc_station.proofs.LoadTags.{with_own, own_is, untagged}
 use Rattle.plc_station.proofs.station.Station.waits.Goals as goal
 
 pub returns-in_default-clause-carries : goal.returns-in_default-clause-carries

@@ -2,9 +2,9 @@ use Rattle.std.proofs.Common.{◌≡◌, ℕ, suc, ◌+◌, ◌++◌, List, Some
 use Rattle.std.specs.Prelude.{slice_get}
 use Rattle.routing_set.specs.declared.entry.RoutingEntry.{RoutingEntry}
 use Rattle.routing_set.specs.RoutingSet.{Routing, AgreesWith, ended}
-use Rattle.routing_set.specs.Endings.{takes, after_ending}
+use Rattle.routing_set.specs.RouteEnds.{takes, after_ending}
 use Rattle.routing_set.specs.FirstEnd.{IsStill}
-use Rattle.routing_set.proofs.Endings.{map_step, map_whole, kept_ended}
+use Rattle.routing_set.proofs.RouteEnds.{map_step, map_whole, kept_ended}
 use Rattle.routing_set.proofs.FirstEnds.{still_ended}
 use Rattle.routing_set.proofs.routing_set.RoutingSet.end_routes.Goals as goal
 

@@ -1,5 +1,5 @@
 use Rattle.std.proofs.Common.{◌≡◌, ◌++◌, map, take, drop, length}
-use Rattle.routing_set.specs.Endings.{after_ending}
+use Rattle.routing_set.specs.RouteEnds.{after_ending}
 use Rattle.routing_set.proofs.routing_set.RoutingSet.end_routes.Given as goal
 
 abbrev pub invariant-loop-place : goal.invariant-loop-place

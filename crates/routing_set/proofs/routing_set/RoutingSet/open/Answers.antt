@@ -1,4 +1,4 @@
-use Rattle.routing_set.proofs.Resting.{read_unrouted, read_still}
+use Rattle.routing_set.proofs.OpenedSets.{read_unrouted, read_still}
 use Rattle.routing_set.proofs.routing_set.RoutingSet.open.Goals as goal
 
 pub returns-clause-unrouted : goal.returns-clause-unrouted

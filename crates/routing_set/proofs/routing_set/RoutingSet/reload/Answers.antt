@@ -1,4 +1,4 @@
-use Rattle.routing_set.proofs.Resting.{read_unrouted}
+use Rattle.routing_set.proofs.OpenedSets.{read_unrouted}
 use Rattle.routing_set.proofs.routing_set.RoutingSet.reload.Goals as goal
 
 pub returns-clause-unrouted : goal.returns-clause-unrouted

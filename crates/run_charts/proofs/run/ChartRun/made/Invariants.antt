@@ -1,5 +1,5 @@
 use Rattle.std.proofs.Common.{◌≡◌, drop}
-use Rattle.run_charts.specs.Sayings.{made_by_all, made_from}
+use Rattle.run_charts.specs.RowSentences.{made_by_all, made_from}
 use Rattle.run_charts.proofs.run.ChartRun.made.Given as goal
 
 -- what the events so far made, and those to come

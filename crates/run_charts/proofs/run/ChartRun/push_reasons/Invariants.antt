@@ -1,6 +1,6 @@
 use Rattle.std.proofs.Common.{◌≡◌, drop}
 use Rattle.std.specs.Prelude.{string_bytes}
-use Rattle.run_charts.specs.Sayings.{reasons_after}
+use Rattle.run_charts.specs.RowSentences.{reasons_after}
 use Rattle.run_charts.proofs.run.ChartRun.push_reasons.Given as goal
 
 -- the sentences so far, and those to come

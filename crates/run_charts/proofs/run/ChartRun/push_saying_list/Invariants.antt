@@ -1,6 +1,6 @@
 use Rattle.std.proofs.Common.{◌≡◌, ◌++◌, drop}
 use Rattle.markup_parts.specs.Markups.{markup_text}
-use Rattle.run_charts.specs.Sayings.{saying_list}
+use Rattle.run_charts.specs.RowSentences.{saying_list}
 use Rattle.run_charts.proofs.run.ChartRun.push_saying_list.Given as goal
 
 -- what was written, and what the rest will be

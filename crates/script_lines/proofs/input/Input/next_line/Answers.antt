@@ -3,7 +3,8 @@ use Rattle.std.proofs.lemmas.List.{nil_from_length}
 use Rattle.std.proofs.lemmas.Result.{err_from_is_err_and}
 use Rattle.plc_base.proofs.SourceLemmas.{no_reads, both_reads}
 use Rattle.script_lines.specs.Windows.{Window}
-use Rattle.script_lines.proofs.Taking.{taking_none, taking_shed, taking_more, shed_clear, clear_front, found_line, found_too_much, found_at_end, found_failure}
+use Rattle.script_lines.proofs.TakenOctets.{taking_none, taking_shed, taking_more, shed_clear, clear_front, found_line, found_too_much, found_at_end}
+use Rattle.script_lines.proofs.TakenOctets.{found_failure}
 use Rattle.script_lines.proofs.input.Input.next_line.Goals as goal
 
 pub loop-at-init : goal.loop-at-init

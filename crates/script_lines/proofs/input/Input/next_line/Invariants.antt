@@ -2,7 +2,7 @@ use Rattle.std.proofs.Common.{◌≡◌, ◌+◌, ◌-◌, ◌≤◌, length, ta
 use Rattle.plc_base.specs.Streams.{SourceFaults}
 use Rattle.script_lines.specs.Lines.{NoFeed}
 use Rattle.script_lines.specs.Next.{StaysOver}
-use Rattle.script_lines.proofs.Taking.{Taking}
+use Rattle.script_lines.proofs.TakenOctets.{Taking}
 use Rattle.script_lines.proofs.input.Input.next_line.Given as goal
 
 abbrev pub invariant-loop-at : goal.invariant-loop-at

@@ -1,6 +1,6 @@
 use Rattle.std.proofs.Common.{ap, sym, arith, ◌∙◌}
 use Rattle.station_queues.specs.Bodies.{Held}
-use Rattle.fragment_buffers.specs.Waiting.{waiting_blocks}
+use Rattle.fragment_buffers.specs.WaitingBodies.{waiting_blocks}
 use Rattle.station_queues.proofs.Sound.{blocks_same}
 use Rattle.station_queues.proofs.bodies.Bodies.blocks.Goals as goal
 

@@ -1,8 +1,8 @@
 use Rattle.std.proofs.Common.{◌≡◌, ◌+◌, ◌<◌, length, ap, sym, subst, arith, ◌∙◌}
 use Rattle.std.proofs.lemmas.List.{length-map}
 use Rattle.std.specs.List.{remove}
-use Rattle.fragment_buffers.specs.Taking.{blocks}
-use Rattle.fragment_buffers.proofs.Writing.{stays-remove}
+use Rattle.fragment_buffers.specs.PieceIntake.{blocks}
+use Rattle.fragment_buffers.proofs.PieceWrites.{stays-remove}
 use Rattle.station_queues.specs.Bodies.{Held, Slot}
 use Rattle.station_queues.specs.BodiesInPool.{IsSound, IsHeld, body_in, bodies_in}
 use Rattle.station_queues.proofs.Sound.{Returns, sound_remove, gathered_remove, bodies_remove, seen_waiting, read_slot, blocks_less}

@@ -1,8 +1,8 @@
 use Rattle.std.proofs.Common.{◌≡◌, ◌-◌, ◌≤◌, not, length}
 use Rattle.std.specs.List.{filter}
-use Rattle.fragment_buffers.specs.Waiting.{Body}
-use Rattle.fragment_buffers.specs.Waiting.{waits_for}
-use Rattle.station_queues.proofs.Dropping.{kept_so_far}
+use Rattle.fragment_buffers.specs.WaitingBodies.{Body}
+use Rattle.fragment_buffers.specs.WaitingBodies.{waits_for}
+use Rattle.station_queues.proofs.DroppedItems.{kept_so_far}
 use Rattle.station_queues.proofs.bodies.Bodies.drop_for.Given as goal
 
 abbrev pub invariant-loop-index : goal.invariant-loop-index

@@ -1,5 +1,5 @@
 use Rattle.std.proofs.Common.{sym, subst, ap, ◌∙◌, List}
-use Rattle.fragment_buffers.specs.Taking.{unexpired}
+use Rattle.fragment_buffers.specs.PieceIntake.{unexpired}
 use Rattle.fragment_buffers.specs.Reassembly.{Reassembly}
 use Rattle.station_queues.specs.Bodies.{Held}
 use Rattle.station_queues.proofs.Sound.{seen_moved, sound_moves}

@@ -1,8 +1,8 @@
 use Rattle.std.proofs.Common.{◌≡◌, ◌-◌, ◌≤◌, length}
 use Rattle.std.specs.List.{filter}
-use Rattle.fragment_buffers.specs.Waiting.{Body}
+use Rattle.fragment_buffers.specs.WaitingBodies.{Body}
 use Rattle.plc_base.specs.Times.{is_within}
-use Rattle.station_queues.proofs.Dropping.{kept_so_far}
+use Rattle.station_queues.proofs.DroppedItems.{kept_so_far}
 use Rattle.station_queues.proofs.bodies.Bodies.expire_waiting.Given as goal
 use Rattle.fragment_buffers.specs.declared.times.TheConstants.{WAITING_TIME}
 

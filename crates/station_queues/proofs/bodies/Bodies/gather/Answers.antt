@@ -1,5 +1,5 @@
 use Rattle.std.proofs.Common.{sym, subst, ap, ◌∙◌}
-use Rattle.fragment_buffers.specs.Taking.{taken}
+use Rattle.fragment_buffers.specs.PieceIntake.{taken}
 use Rattle.station_queues.specs.Bodies.{Held}
 use Rattle.station_queues.proofs.Sound.{seen_moved, sound_moves}
 use Rattle.station_queues.specs.FirstEnd.{IsStill}

@@ -1,6 +1,6 @@
 use Rattle.std.proofs.Common.{ap, ◌∙◌}
 use Rattle.station_queues.specs.Bodies.{Held}
-use Rattle.fragment_buffers.specs.Waiting.{is_awaited_in}
+use Rattle.fragment_buffers.specs.WaitingBodies.{is_awaited_in}
 use Rattle.station_queues.proofs.Sound.{awaited_same}
 use Rattle.station_queues.proofs.bodies.Bodies.is_awaited.Goals as goal
 

@@ -2,7 +2,7 @@ use Rattle.std.proofs.Common.{◌≡◌, [], ◌∷◌, ◌++◌, length, ap, sy
 use Rattle.std.proofs.lemmas.List.{length-replicate}
 use Rattle.block_pool.specs.Pool.{chain_octets, IsChain}
 use Rattle.block_pool.proofs.Callers.{IsChain-insert, chain_octets-insert, overwrite_all}
-use Rattle.fragment_buffers.proofs.Writing.{Stays, stays-insert}
+use Rattle.fragment_buffers.proofs.PieceWrites.{Stays, stays-insert}
 use Rattle.fragment_buffers.specs.Loads.{load_of}
 use Rattle.station_queues.specs.Bodies.{Held, Slot}
 use Rattle.station_queues.specs.BodiesInPool.{IsSound, bodies_in}

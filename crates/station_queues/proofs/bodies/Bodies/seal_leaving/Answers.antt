@@ -5,7 +5,7 @@ use Rattle.plc_base.specs.declared.out_frame.OutFrame.{OutFrame}
 use Rattle.station_queues.specs.Bodies.{Held}
 use Rattle.station_queues.specs.BodiesInPool.{body_in}
 use Rattle.station_queues.specs.Frames.{body_at, frames_of}
-use Rattle.fragment_buffers.specs.Waiting.{leaving}
+use Rattle.fragment_buffers.specs.WaitingBodies.{leaving}
 use Rattle.station_queues.specs.Frames.{with_frames}
 use Rattle.station_queues.proofs.Leaves.{leaving-none, leaving-suc, leaving-few}
 use Rattle.station_queues.proofs.Letters.{frames-append, length-frames}

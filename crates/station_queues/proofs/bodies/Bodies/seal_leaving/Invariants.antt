@@ -1,6 +1,6 @@
 use Rattle.std.proofs.Common.{◌≡◌, ◌++◌, take}
 use Rattle.station_queues.specs.Frames.{frames_of}
-use Rattle.fragment_buffers.specs.Waiting.{leaving}
+use Rattle.fragment_buffers.specs.WaitingBodies.{leaving}
 use Rattle.station_queues.specs.Frames.{with_frames}
 use Rattle.station_queues.proofs.bodies.Bodies.seal_leaving.Given as goal
 

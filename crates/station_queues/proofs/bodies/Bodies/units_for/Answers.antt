@@ -3,7 +3,7 @@ use Rattle.std.proofs.lemmas.List.{length-append, length-map}
 use Rattle.station_queues.specs.Bodies.{Held}
 use Rattle.station_queues.specs.BodiesInPool.{body_in}
 use Rattle.station_queues.specs.Frames.{body_at}
-use Rattle.fragment_buffers.specs.Waiting.{leaving}
+use Rattle.fragment_buffers.specs.WaitingBodies.{leaving}
 use Rattle.station_queues.proofs.Leaves.{leaving-none, leaving-suc, leaving-all, few-units}
 use Rattle.station_queues.proofs.bodies.Bodies.units_for.Goals as goal
 

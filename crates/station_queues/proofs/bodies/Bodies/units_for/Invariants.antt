@@ -1,5 +1,5 @@
 use Rattle.std.proofs.Common.{◌≡◌, ℕ, ◌≤◌, ◌*◌, length, take}
-use Rattle.fragment_buffers.specs.Waiting.{leaving}
+use Rattle.fragment_buffers.specs.WaitingBodies.{leaving}
 use Rattle.station_queues.proofs.bodies.Bodies.units_for.Given as goal
 
 abbrev pub invariant-loop-index : goal.invariant-loop-index

@@ -4,8 +4,8 @@ use Rattle.std.specs.FinMap.{get}
 use Rattle.store_tables.specs.SlotTables.{place_of, opened_from, slot_of}
 use Rattle.store_tables.proofs.SlotTables.{free_new}
 use Rattle.store_tables.proofs.SlotOrders.{slot_fits}
-use Rattle.store_tables.proofs.Opening.{with_record-none, with_record-held, with_record-new, opened_from-empty, opened_from-damaged, opened_from-more}
-use Rattle.store_tables.proofs.Opening.{opened_from-none_left}
+use Rattle.store_tables.proofs.OpenedTables.{with_record-none, with_record-held, with_record-new, opened_from-empty, opened_from-damaged, opened_from-more}
+use Rattle.store_tables.proofs.OpenedTables.{opened_from-none_left}
 use Rattle.store_tables.proofs.slot_table.SlotTable.read_all.Goals as goal
 
 pub returns-in_default-read : goal.returns-in_default-read

@@ -1,5 +1,5 @@
 use Rattle.std.proofs.Common.{Ok, Err}
-use Rattle.store_tables.proofs.Opening.{reloaded}
+use Rattle.store_tables.proofs.OpenedTables.{reloaded}
 use Rattle.store_tables.proofs.slot_table.SlotTable.reload.Goals as goal
 
 pub returns-in-Ok : goal.returns-in-Ok

@@ -2,7 +2,7 @@ use Rattle.std.proofs.Common.{[], ◌∷◌, ◌∙◌, ap, string_bytes}
 use Rattle.sentence_parts.specs.declared.part.Part.TheVariants.{Words}
 use Rattle.sentence_parts.specs.Parts.{parts_text}
 use Rattle.story_accounts.specs.Fates.{lost_text}
-use Rattle.story_accounts.proofs.Saying.{says}
+use Rattle.story_accounts.proofs.MadeTexts.{says}
 use Rattle.story_accounts.proofs.account.Account.lost_text.Goals as goal
 
 pub returns : goal.returns

@@ -1,7 +1,7 @@
 use Rattle.std.proofs.Common.{[], ◌∷◌, string_bytes}
 use Rattle.sentence_parts.specs.Parts.{parts_text}
 use Rattle.story_accounts.specs.Waits.{message_aged}
-use Rattle.story_accounts.proofs.Saying.{appends}
+use Rattle.story_accounts.proofs.MadeTexts.{appends}
 use Rattle.story_accounts.proofs.account.Account.push_message_aged.Goals as goal
 
 pub returns : goal.returns

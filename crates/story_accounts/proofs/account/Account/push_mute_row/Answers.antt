@@ -2,7 +2,7 @@ use Rattle.std.proofs.Common.{[], ◌∷◌, ◌∙◌, ap, string_bytes}
 use Rattle.sentence_parts.specs.declared.part.Part.TheVariants.{Number, Words}
 use Rattle.sentence_parts.specs.Parts.{parts_text}
 use Rattle.story_accounts.specs.Sections.{mute_row}
-use Rattle.story_accounts.proofs.Saying.{appends}
+use Rattle.story_accounts.proofs.MadeTexts.{appends}
 use Rattle.story_accounts.proofs.account.Account.push_mute_row.Goals as goal
 
 pub returns : goal.returns

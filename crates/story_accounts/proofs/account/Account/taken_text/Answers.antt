@@ -1,7 +1,7 @@
 use Rattle.std.proofs.Common.{[], ◌∷◌, string_bytes}
 use Rattle.sentence_parts.specs.Parts.{parts_text}
 use Rattle.story_accounts.specs.Fates.{taken_text}
-use Rattle.story_accounts.proofs.Saying.{says}
+use Rattle.story_accounts.proofs.MadeTexts.{says}
 use Rattle.story_accounts.proofs.account.Account.taken_text.Goals as goal
 
 pub returns : goal.returns

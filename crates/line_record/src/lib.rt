@@ -1,0 +1,48 @@
+//! The record of a run as a value: which line asked for which event, how the event ended, and whom each flight is for and what it is about.
+//!
+//! A record keeps no octets of datagrams, frames and keys: an event takes some 60 octets, a flight some 40. Who runs a script pushes each
+//! event that was taken, and then its new flights, so events and flights have their numbers by their places, counted from 1.
+//!
+//! ```text
+//! let mut run_record = RunRecord::new(alloc);
+//! let happened = world.step(&event, &mut space)?;
+//! record.push_event(line, &event, &happened, clock, 0)?;
+//! for each new flight {
+//!     run_record.push_flight(sender, note, octets, Some(payload), None)?;
+//! }
+//! ```
+//!
+//! Beside it stands what there is of stories as values: of which kind an event is to a story, what an event says of a story and of a flight, and
+//! the verdict of a story. Which story owns what is found above (`line_stories`).
+//!
+//! `specs/Acts.antt` says what is kept of an event, `specs/RunRecords.antt` what a record is, `specs/Kinds.antt` what events and answers are to a story,
+//! `specs/Marks.antt` what becomes of a story and a flight at an event, and `specs/Verdicts.antt` what became of each story.
+#![tactic(auto)]
+
+mod act;
+mod counters;
+mod course;
+mod ends;
+mod kept;
+mod kind;
+mod recorded;
+mod run_record;
+mod story;
+mod verdict;
+
+pub use act::{Act, act_of, flight_come};
+pub use counters::Counters;
+pub use course::{Course, Fate, change_courses};
+pub use ends::{Ends, ends_of, first_nonzero, went_on};
+pub use kept::{
+    Kept, KeptEnd, end_of, ended_so, is_kept_of, is_message, is_still, makes_message, may_end,
+};
+pub use kind::{
+    StoryKind, actor_of, begins, goes_on_with, is_for_another, is_line, is_piece_held, is_refused,
+    is_setup, is_setup_kind, joins, keeps_joinings, makes_node, person_of, prepares, sends,
+    takes_counter,
+};
+pub use recorded::{RecordedEvent, RecordedFlight, made_by, recorded_event, recorded_flight};
+pub use run_record::RunRecord;
+pub use story::{Story, came, left, marked, new_story, with_kept};
+pub use verdict::{Verdict, is_good, verdict_of};
