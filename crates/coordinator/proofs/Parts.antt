@@ -34,7 +34,7 @@ module _ (randoms : List RandomOctets) (sessions : List CoordinatorSession) (b :
   pub part_ring : (o : Option StationMemory) (l : StationMemory) → o ≡ Some l
       → IfSome (option_map (memory_in randoms sessions b) o) (λ m. CoordinatorAgreesWith m records)
       → IsSome l.ring
-  part_ring o l running h = at_some o (λ l. IsSome l.ring) l running (part_joined o h)
+  part_ring o l running h = subst (λ (k : Option StationMemory). IfSome k (λ m. IsSome m.ring)) running (part_joined o h)
 
   pub part_book : (o : Option StationMemory) → IsSome (option_map (memory_in randoms sessions b) o)
       → IfSome (option_map (memory_in randoms sessions b) o) (λ m. CoordinatorAgreesWith m records)

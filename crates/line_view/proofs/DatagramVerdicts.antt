@@ -19,7 +19,7 @@ use Rattle.line_rules.specs.Worlds.{Trace, World, node_at, start}
 use Rattle.line_record.specs.declared.act.Act.TheVariants as acts
 use Rattle.line_record.specs.declared.recorded.RecordedEvent.{RecordedEvent}
 use Rattle.line_record.specs.Acts.{act_of}
-use Rattle.line_record.specs.Kinds.{readies, sends}
+use Rattle.line_record.specs.Kinds.{prepares, sends}
 use Rattle.line_record.specs.RunRecords.{note_of}
 use Rattle.line_stories.specs.Laws.{IsDatagramStory, ReadiesOnly, first_up, is_of, sends_in}
 use Rattle.line_stories.specs.Stories.{stories_of}
@@ -81,15 +81,15 @@ unfolding rand
 rand_quiet ciphers w number value = once_quiet w _ (node_quiet w number _ (λ x. taken_quiet _ refl))
 
 -- an entry that prepares a node for a joining hands nothing up
-readies_only : (w : World) (x : Entry) → line_step network w x.event ≡ Ok (x.after, x.trace) → is_some (readies (act_of x.event)) ≡ true
+prepares_only : (w : World) (x : Entry) → line_step network w x.event ≡ Ok (x.after, x.trace) → is_some (prepares (act_of x.event)) ≡ true
     → x.trace.happenings.up ≡ None
-readies_only w x is readied = by_event x.event refl
+prepares_only w x is readied = by_event x.event refl
   where
     quiet : (event : Event) → x.event ≡ event → HandsNothingUp (line_step network w event) → x.trace.happenings.up ≡ None
     quiet event same nothing = nothing (x.after, x.trace) (ap (line_step network w) (sym same) ∙ is)
 
-    other : (event : Event) → x.event ≡ event → is_some (readies (act_of event)) ≡ false → x.trace.happenings.up ≡ None
-    other event same unready = absurd (true_false (sym readied ∙ ap (λ (e : Event). is_some (readies (act_of e))) same ∙ unready))
+    other : (event : Event) → x.event ≡ event → is_some (prepares (act_of event)) ≡ false → x.trace.happenings.up ≡ None
+    other event same unready = absurd (true_false (sym readied ∙ ap (λ (e : Event). is_some (prepares (act_of e))) same ∙ unready))
 
     by_event : (event : Event) → x.event ≡ event → x.trace.happenings.up ≡ None
     by_event (events.Allow node) same = quiet (events.Allow node) same (allow_quiet network w node)
@@ -165,7 +165,7 @@ told_only : (xs : List (ℕ × Entry)) (r : Recording) (w : World) → IsRun net
 unfolding told_all
 told_only [] r w is = λ k d inside. absurd (omega (arith, inside))
 told_only (x ∷ xs) r w is =
-    all_more (event_of_entry x.0 x.1 r) (told_all xs (recording_after x.0 x.1 r)) (λ readied. ap note_of (readies_only w x.1 is.2 readied))
+    all_more (event_of_entry x.0 x.1 r) (told_all xs (recording_after x.0 x.1 r)) (λ readied. ap note_of (prepares_only w x.1 is.2 readied))
     (told_only xs (recording_after x.0 x.1 r) x.1.after is.3)
 
 -- the world after a part of a run, and the run from there

@@ -1,4 +1,4 @@
--- What is told of the end of what a node keeps is what the event did.
+-- What is recorded of the end of what a node keeps is what the event did.
 use Rattle.std.proofs.Common.{◌≡◌, ◌≢◌, ℕ, ◌+◌, ◌-◌, ◌==◌, Bool, true, false, Some, None, Ok, refl, sym, ap, subst}
 use Rattle.std.proofs.Common.{◌∙◌, ◌⊎◌, inl, inr, ⊎_elim}
 use Rattle.std.specs.Prelude.{◌&&◌, if◌then◌else◌, nat_le}
@@ -21,14 +21,14 @@ use Rattle.line_progress.proofs.TickEvents.{time_comes}
 use Rattle.line_record.specs.declared.kept.Kept.{Kept}
 use Rattle.line_record.specs.declared.kept.KeptEnd.{KeptEnd}
 use Rattle.line_record.specs.declared.kept.KeptEnd.TheVariants as kept_ends
-use Rattle.line_record.specs.declared.recorded.TaleEvent.{TaleEvent}
+use Rattle.line_record.specs.declared.recorded.RecordedEvent.{RecordedEvent}
 use Rattle.line_record.specs.Acts.{act_of}
 use Rattle.line_record.specs.KeptItems.{end_of, is_left, is_power_lost, is_restart, is_still, is_tick, time_of}
 use Rattle.line_record.specs.Kinds.{actor_of}
-use Rattle.story_laws.specs.Ends.{EndedKept, EndsAreTold, HaltsUnsaid, IsNamed, IsNamedEnd, IsNone}
-use Rattle.story_laws.specs.Ends.{IsToldRight, NamesAge, NamesLeaving, NamesLoss, NamesRestart}
-use Rattle.story_laws.specs.Ends.{ToldEndsAreSo, told_by}
-use Rattle.story_laws.proofs.Numbers.{old_told, told_old}
+use Rattle.story_laws.specs.Ends.{EndedKept, EndsAreRecorded, HaltsUnsaid, IsNamed, IsNamedEnd, IsNone}
+use Rattle.story_laws.specs.Ends.{IsRecordedRight, NamesAge, NamesLeaving, NamesLoss, NamesRestart}
+use Rattle.story_laws.specs.Ends.{RecordedEndsAreSo, recorded_by}
+use Rattle.story_laws.proofs.Numbers.{old_recorded, recorded_old}
 use Rattle.story_laws.proofs.Words.{left_word, lost_word}
 use Rattle.story_laws.proofs.PlainEvents.{IsPlain, coordinator_plain, meter_plain, depot_plain, near_plain, preset_plain, checks_plain, rand_plain}
 use Rattle.story_laws.proofs.PlainEvents.{joined_plain, choose_plain}
@@ -254,11 +254,11 @@ module _ (ciphers : Ciphers) (w v : World) (d : Trace) where
     left_at (events.Choose node k) e own = absurd (plain_left _ (choose_plain ciphers w node k) e)
     left_at (events.Path from to) e own = absurd (quiet_left from _ (path_quiet ciphers w from to) e)
 
--- # What ends is told
+-- # What ends is recorded
 
 module _ (ciphers : Ciphers) (w v : World) (event : Event) (d : Trace) (k : Kept) (n row same : ℕ) where
-  abbrev told : TaleEvent
-  told = told_by row same event (v, d)
+  abbrev recorded : RecordedEvent
+  recorded = recorded_by row same event (v, d)
 
   abbrev end_by : (old restart leaving loss : Bool) → KeptEnd
   end_by old restart leaving loss =
@@ -280,7 +280,7 @@ module _ (ciphers : Ciphers) (w v : World) (event : Event) (d : Trace) (k : Kept
   Named end = IsNamedEnd w event k n (v, d) end
 
   named_so : (old restart leaving loss : Bool) → is_old ≡ old → is_restart k.node (act_of event) ≡ restart → leaves ≡ leaving → loses ≡ loss
-      → Named (end_by old restart leaving loss) → Named (end_of n told k)
+      → Named (end_by old restart leaving loss) → Named (end_of n recorded k)
   named_so old restart leaving loss a b c e named =
       subst Named (λ i. end_by (sym a i) (sym b i) (sym c i) (sym e i)) named
 
@@ -298,9 +298,9 @@ module _ (ciphers : Ciphers) (w v : World) (event : Event) (d : Trace) (k : Kept
     old_so : (seconds : ℕ) → event ≡ events.Tick seconds → is_within (time_of k.gathered) (w.clock + seconds) k.clock ≡ false → is_old ≡ true
     old_so seconds is old =
         (λ i. is_tick (act_of (is i)) && nat_le (time_of k.gathered) ((ticked_so seconds is).clock i - k.clock))
-        ∙ old_told (time_of k.gathered) (w.clock + seconds) k.clock old
+        ∙ old_recorded (time_of k.gathered) (w.clock + seconds) k.clock old
 
-    by_kind : (l : StationMemory) → station_at w k.node ≡ Some l → EndedKept w event k (v, d) → Named (end_of n told k) ⊎ HaltsUnsaid event k (v, d)
+    by_kind : (l : StationMemory) → station_at w k.node ≡ Some l → EndedKept w event k (v, d) → Named (end_of n recorded k) ⊎ HaltsUnsaid event k (v, d)
     by_kind l there (TimePassed seconds is old) =
         inl (named_so true _ _ _ (old_so seconds is old) refl refl refl (names_age seconds is old))
     by_kind l there (Restarted is) =
@@ -317,14 +317,14 @@ module _ (ciphers : Ciphers) (w v : World) (event : Event) (d : Trace) (k : Kept
         (NamesLoss lost (eqb-true (actor_of (act_of event)) k.node at.2)))
     by_kind l there (LostPowerUnsaid hides none) = inr (hides, none)
 
-    -- # What is told has ended so
+    -- # What is recorded has ended so
 
     old_at : is_old ≡ true → Named (kept_ends.Aged n (v.clock - k.clock))
     old_at old =
         let parts = and_parts (is_tick (act_of event)) _ old in
         let at = ticked_at event parts.0 in
         names_age at.0 at.1
-        (told_old k.gathered (w.clock + at.0) k.clock
+        (recorded_old k.gathered (w.clock + at.0) k.clock
         (sym (ap (λ (c : ℕ). nat_le (time_of k.gathered) (c - k.clock)) (ticked_so at.0 at.1).clock) ∙ parts.1))
 
     left_so : leaves ≡ true → Named (kept_ends.Left n)
@@ -337,36 +337,36 @@ module _ (ciphers : Ciphers) (w v : World) (event : Event) (d : Trace) (k : Kept
         let parts = and_parts (is_power_lost d.happenings.answer) _ lost in
         NamesLoss (lost_word d.happenings.answer parts.0) (eqb-true (actor_of (act_of event)) k.node parts.1)
 
-    told_so : (l : StationMemory) → station_at w k.node ≡ Some l → IsToldRight w event k n (v, d) (end_of n told k)
-    told_so l there = by_old is_old refl
+    recorded_so : (l : StationMemory) → station_at w k.node ≡ Some l → IsRecordedRight w event k n (v, d) (end_of n recorded k)
+    recorded_so l there = by_old is_old refl
       where
-        unsaid : end_of n told k ≡ kept_ends.Still → Named (end_of n told k) ⊎ HaltsUnsaid event k (v, d) → HaltsUnsaid event k (v, d)
+        unsaid : end_of n recorded k ≡ kept_ends.Still → Named (end_of n recorded k) ⊎ HaltsUnsaid event k (v, d) → HaltsUnsaid event k (v, d)
         unsaid still said =
-            ⊎_elim (λ (named : Named (end_of n told k)). absurd (still_named w event k n (v, d) kept_ends.Still refl (subst Named still named)))
+            ⊎_elim (λ (named : Named (end_of n recorded k)). absurd (still_named w event k n (v, d) kept_ends.Still refl (subst Named still named)))
             (λ (halts : HaltsUnsaid event k (v, d)). halts) said
 
         by_loss : (b : Bool) → is_old ≡ false → is_restart k.node (act_of event) ≡ false → leaves ≡ false → loses ≡ b
-            → IsToldRight w event k n (v, d) (end_of n told k)
+            → IsRecordedRight w event k n (v, d) (end_of n recorded k)
         by_loss true a b c e = IsNamed (named_so false false false true a b c e (lost_so e))
         by_loss false a b c e =
-            let still : end_of n told k ≡ kept_ends.Still = λ i. end_by (a i) (b i) (c i) (e i) in
+            let still : end_of n recorded k ≡ kept_ends.Still = λ i. end_by (a i) (b i) (c i) (e i) in
             IsNone still (λ ended. unsaid still (by_kind l there ended))
 
         by_leaving : (b : Bool) → is_old ≡ false → is_restart k.node (act_of event) ≡ false → leaves ≡ b
-            → IsToldRight w event k n (v, d) (end_of n told k)
+            → IsRecordedRight w event k n (v, d) (end_of n recorded k)
         by_leaving true a b c = IsNamed (named_so false false true loses a b c refl (left_so c))
         by_leaving false a b c = by_loss loses a b c refl
 
-        by_restart : (b : Bool) → is_old ≡ false → is_restart k.node (act_of event) ≡ b → IsToldRight w event k n (v, d) (end_of n told k)
+        by_restart : (b : Bool) → is_old ≡ false → is_restart k.node (act_of event) ≡ b → IsRecordedRight w event k n (v, d) (end_of n recorded k)
         by_restart true a b = IsNamed (named_so false true leaves loses a b refl refl (NamesRestart (restarted_at k.node event b)))
         by_restart false a b = by_leaving leaves a b refl
 
-        by_old : (b : Bool) → is_old ≡ b → IsToldRight w event k n (v, d) (end_of n told k)
+        by_old : (b : Bool) → is_old ≡ b → IsRecordedRight w event k n (v, d) (end_of n recorded k)
         by_old true a = IsNamed (named_so true (is_restart k.node (act_of event)) leaves loses a refl refl refl (old_at a))
         by_old false a = by_restart (is_restart k.node (act_of event)) a refl
 
-pub ends_are_told : EndsAreTold
-ends_are_told ciphers w v event d step k l there ended row same n = by_kind ciphers w v event d k n row same step l there ended
+pub ends_are_recorded : EndsAreRecorded
+ends_are_recorded ciphers w v event d step k l there ended row same n = by_kind ciphers w v event d k n row same step l there ended
 
-pub told_ends_are_so : ToldEndsAreSo
-told_ends_are_so ciphers w v event d step k l there row same n = told_so ciphers w v event d k n row same step l there
+pub recorded_ends_are_so : RecordedEndsAreSo
+recorded_ends_are_so ciphers w v event d step k l there row same n = recorded_so ciphers w v event d k n row same step l there

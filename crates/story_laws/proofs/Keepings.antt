@@ -13,18 +13,18 @@ use Rattle.line_record.specs.declared.act.Act.TheVariants as acts
 use Rattle.line_record.specs.declared.kept.Kept.{Kept}
 use Rattle.line_record.specs.declared.kept.KeptEnd.{KeptEnd}
 use Rattle.line_record.specs.declared.kept.KeptEnd.TheVariants as kept_ends
-use Rattle.line_record.specs.declared.course.Lot.{Lot}
-use Rattle.line_record.specs.declared.recorded.TaleEvent.{TaleEvent}
-use Rattle.line_record.specs.declared.recorded.TaleFlight.{TaleFlight}
+use Rattle.line_record.specs.declared.course.Course.{Course}
+use Rattle.line_record.specs.declared.recorded.RecordedEvent.{RecordedEvent}
+use Rattle.line_record.specs.declared.recorded.RecordedFlight.{RecordedFlight}
 use Rattle.line_record.specs.KeptItems.{end_of, is_kept_of, is_left, is_power_lost, is_restart, is_still, is_tick, makes_message, may_end, restarts, time_of}
-use Rattle.line_record.specs.Kinds.{actor_of, is_piece_held, readies, sends}
+use Rattle.line_record.specs.Kinds.{actor_of, is_piece_held, prepares, sends}
 use Rattle.line_record.specs.RunRecords.{made_by, numbered}
 use Rattle.line_stories.specs.NodeItems.{about_by, asked_about, has_kept, is_message_about, is_waiting, keeping_left, kept_if, message_about, message_kept}
 use Rattle.line_stories.specs.NodeItems.{new_kept}
 use Rattle.line_stories.specs.NodeItems.{others_kept, piece_kept, piece_of, still_kept, waiting_kept}
 use Rattle.line_stories.specs.Stories.{Stories, announced, event_by, event_seen, events_seen, flight_owner, flight_seen, flights_seen, kept_begun}
-use Rattle.line_stories.specs.Stories.{kept_ended, kept_seen, last_owner, may_leave, message_story, next_event, no_stories, readied, recorded}
-use Rattle.line_stories.specs.Stories.{settled, stories_of, told_seen, up_by, up_keeping, up_kept}
+use Rattle.line_stories.specs.Stories.{kept_ended, kept_seen, last_owner, may_leave, message_story, next_event, no_stories, readied, stories_after}
+use Rattle.line_stories.specs.Stories.{settled, stories_of, record_seen, up_by, up_keeping, up_kept}
 use Rattle.line_stories.proofs.Counts.{one_more, seen, settled_count}
 use Rattle.story_laws.specs.Keepings.{HasBegun, IsGathered, IsKeptSince, IsMessage, KeptAreSince, MakesNone, Waits}
 
@@ -36,20 +36,20 @@ true_false e = cc
 not_zero : (n : ℕ) → (suc n == 0) ≡ false
 not_zero n = ne_eqb (suc n) 0 (λ e. absurd (omega (arith, e)))
 
-number_place : (xs : List TaleEvent) (n : ℕ) → numbered xs (suc n) ≡ slice_get xs n
+number_place : (xs : List RecordedEvent) (n : ℕ) → numbered xs (suc n) ≡ slice_get xs n
 number_place xs n =
     ap (λ (b : Bool). if b then None else slice_get xs (suc n - 1)) (not_zero n) ∙ ap (λ (k : ℕ). slice_get xs k) (omega arith)
 
-place_within : (xs : List TaleEvent) (n : ℕ) (x : TaleEvent) → slice_get xs n ≡ Some x → n < length xs
+place_within : (xs : List RecordedEvent) (n : ℕ) (x : RecordedEvent) → slice_get xs n ≡ Some x → n < length xs
 place_within [] n x is = absurd (none-some x is)
 place_within (y ∷ xs) zero x is = omega arith
 place_within (y ∷ xs) (suc n) x is = let inside = place_within xs n x is in omega (arith, inside)
 
-within : (xs : List TaleEvent) (n : ℕ) (x : TaleEvent) → numbered xs n ≡ Some x → n ≤ length xs
+within : (xs : List RecordedEvent) (n : ℕ) (x : RecordedEvent) → numbered xs n ≡ Some x → n ≤ length xs
 within xs zero x is = omega arith
 within xs (suc n) x is = let inside = place_within xs n x (sym (number_place xs n) ∙ is) in omega (arith, inside)
 
-pushed_place : (xs : List TaleEvent) (y : TaleEvent) (k : ℕ) (x : TaleEvent) → slice_get (xs ++ (y ∷ [])) k ≡ Some x
+pushed_place : (xs : List RecordedEvent) (y : RecordedEvent) (k : ℕ) (x : RecordedEvent) → slice_get (xs ++ (y ∷ [])) k ≡ Some x
     → (slice_get xs k ≡ Some x) ⊎ ((k ≡ length xs) × (x ≡ y))
 pushed_place [] y zero x is = inr (refl, sym (same_Some y x is))
 pushed_place [] y (suc k) x is = absurd (none-some x is)
@@ -57,23 +57,23 @@ pushed_place (z ∷ xs) y zero x is = inl is
 pushed_place (z ∷ xs) y (suc k) x is =
     ⊎_elim (λ old. inl old) (λ (new : (k ≡ length xs) × (x ≡ y)). inr (ap suc new.0, new.1)) (pushed_place xs y k x is)
 
-pushed_number : (xs : List TaleEvent) (y : TaleEvent) (k : ℕ) (x : TaleEvent) → numbered (xs ++ (y ∷ [])) k ≡ Some x
+pushed_number : (xs : List RecordedEvent) (y : RecordedEvent) (k : ℕ) (x : RecordedEvent) → numbered (xs ++ (y ∷ [])) k ≡ Some x
     → (numbered xs k ≡ Some x) ⊎ ((k ≡ length xs + 1) × (x ≡ y))
 pushed_number xs y zero x is = absurd (none-some x is)
 pushed_number xs y (suc k) x is =
     ⊎_elim (λ old. inl (number_place xs k ∙ old)) (λ (new : (k ≡ length xs) × (x ≡ y)). inr (omega (arith, new.0), new.1))
     (pushed_place xs y k x (sym (number_place (xs ++ (y ∷ [])) k) ∙ is))
 
-kept_place : (xs : List TaleEvent) (y : TaleEvent) (k : ℕ) (x : TaleEvent) → slice_get xs k ≡ Some x → slice_get (xs ++ (y ∷ [])) k ≡ Some x
+kept_place : (xs : List RecordedEvent) (y : RecordedEvent) (k : ℕ) (x : RecordedEvent) → slice_get xs k ≡ Some x → slice_get (xs ++ (y ∷ [])) k ≡ Some x
 kept_place [] y k x is = absurd (none-some x is)
 kept_place (z ∷ xs) y zero x is = is
 kept_place (z ∷ xs) y (suc k) x is = kept_place xs y k x is
 
-kept_number : (xs : List TaleEvent) (y : TaleEvent) (k : ℕ) (x : TaleEvent) → numbered xs k ≡ Some x → numbered (xs ++ (y ∷ [])) k ≡ Some x
+kept_number : (xs : List RecordedEvent) (y : RecordedEvent) (k : ℕ) (x : RecordedEvent) → numbered xs k ≡ Some x → numbered (xs ++ (y ∷ [])) k ≡ Some x
 kept_number xs y zero x is = absurd (none-some x is)
 kept_number xs y (suc k) x is = number_place (xs ++ (y ∷ [])) k ∙ kept_place xs y k x (sym (number_place xs k) ∙ is)
 
-last_number : (xs : List TaleEvent) (y : TaleEvent) → numbered (xs ++ (y ∷ [])) (length xs + 1) ≡ Some y
+last_number : (xs : List RecordedEvent) (y : RecordedEvent) → numbered (xs ++ (y ∷ [])) (length xs + 1) ≡ Some y
 last_number xs y = ap (λ (k : ℕ). numbered (xs ++ (y ∷ [])) k) (omega arith) ∙ number_place (xs ++ (y ∷ [])) (length xs) ∙ slice_get-push xs y
 
 -- # What does not end anything
@@ -115,7 +115,7 @@ none_of false false true r e = absurd (true_false e)
 none_of false false false true e = absurd (true_false e)
 none_of false false false false e = (refl, refl, refl, refl)
 
-never_ends : (n : ℕ) (e : TaleEvent) (k : Kept) → may_end e ≡ false → end_of n e k ≡ kept_ends.Still
+never_ends : (n : ℕ) (e : RecordedEvent) (k : Kept) → may_end e ≡ false → end_of n e k ≡ kept_ends.Still
 never_ends n e k never =
     let a = none_of (is_tick e.act) (is_left e.answer) (is_power_lost e.answer) (restarts e.act) never in
     let r = no_restart k.node e.act a.3 in
@@ -169,7 +169,7 @@ module _ (P Q : Kept → Type 0) where
   each_more [] f a = tt
   each_more (k ∷ xs) f a = (f k a.0, each_more xs f a.1)
 
-  each_still : (n : ℕ) (e : TaleEvent) (xs : List Kept) → ((k : Kept) → P k → end_of n e k ≡ kept_ends.Still → Q k) → Each P xs
+  each_still : (n : ℕ) (e : RecordedEvent) (xs : List Kept) → ((k : Kept) → P k → end_of n e k ≡ kept_ends.Still → Q k) → Each P xs
       → Each Q (still_kept n e xs)
   each_still n e [] f a = tt
   each_still n e (k ∷ xs) f a =
@@ -179,7 +179,7 @@ module _ (P Q : Kept → Type 0) where
 
 -- # One event
 
-module _ (es : List TaleEvent) (e : TaleEvent) where
+module _ (es : List RecordedEvent) (e : RecordedEvent) where
   abbrev Old : Kept → Type 0
   Old k = IsKeptSince es k
 
@@ -196,10 +196,10 @@ module _ (es : List TaleEvent) (e : TaleEvent) where
     still = still;
   }
     where
-      last : (m : ℕ) (x : TaleEvent) → m ≡ length es + 1 → x ≡ e → end_of m x k ≡ kept_ends.Still
+      last : (m : ℕ) (x : RecordedEvent) → m ≡ length es + 1 → x ≡ e → end_of m x k ≡ kept_ends.Still
       last m x at same = (λ i. end_of (at i) (same i) k) ∙ is
 
-      still : (m : ℕ) (x : TaleEvent) → k.event < m → numbered (es ++ (e ∷ [])) m ≡ Some x → end_of m x k ≡ kept_ends.Still
+      still : (m : ℕ) (x : RecordedEvent) → k.event < m → numbered (es ++ (e ∷ [])) m ≡ Some x → end_of m x k ≡ kept_ends.Still
       still m x later at =
           ⊎_elim (λ (before : numbered es m ≡ Some x). old.still m x later before)
           (λ (new : (m ≡ length es + 1) × (x ≡ e)). last m x new.0 new.1) (pushed_number es e m x at)
@@ -247,25 +247,25 @@ module _ (es : List TaleEvent) (e : TaleEvent) where
             subst New (same_Some (new_kept story e n 0 false) k is) (begins (new_kept story e n 0 false) at refl refl (Waits refl parts.0 parts.1))
         by_test false test is = absurd (none-some k is)
 
-    piece_new : (lots : List Lot) (keeping : List Kept) (k : Kept) → piece_kept e n lots keeping ≡ Some k → New k
-    piece_new lots keeping k is = by_held (is_piece_held e.answer) refl (e.came == 0) is
+    piece_new : (courses : List Course) (keeping : List Kept) (k : Kept) → piece_kept e n courses keeping ≡ Some k → New k
+    piece_new courses keeping k is = by_held (is_piece_held e.answer) refl (e.came == 0) is
       where
-        by_begun : is_piece_held e.answer ≡ true → (lot : Lot) (b : Bool) → (if b then Some (new_kept lot.story e n 0 true) else None) ≡ Some k → New k
-        by_begun held lot true is =
-            subst New (same_Some (new_kept lot.story e n 0 true) k is) (begins (new_kept lot.story e n 0 true) at refl refl (IsGathered refl held))
-        by_begun held lot false is = absurd (none-some k is)
+        by_begun : is_piece_held e.answer ≡ true → (course : Course) (b : Bool) → (if b then Some (new_kept course.story e n 0 true) else None) ≡ Some k → New k
+        by_begun held course true is =
+            subst New (same_Some (new_kept course.story e n 0 true) k is) (begins (new_kept course.story e n 0 true) at refl refl (IsGathered refl held))
+        by_begun held course false is = absurd (none-some k is)
 
-        by_lot : is_piece_held e.answer ≡ true → (o : Option Lot) → piece_of o e n keeping ≡ Some k → New k
+        by_lot : is_piece_held e.answer ≡ true → (o : Option Course) → piece_of o e n keeping ≡ Some k → New k
         by_lot held None is = absurd (none-some k is)
-        by_lot held (Some lot) is = by_begun held lot (lot.bears && not (has_kept true lot.story (actor_of e.act) keeping)) is
+        by_lot held (Some course) is = by_begun held course (course.bears && not (has_kept true course.story (actor_of e.act) keeping)) is
 
         by_held : (held : Bool) → is_piece_held e.answer ≡ held → (none : Bool)
-            → (if not held || none then None else piece_of (numbered lots e.came) e n keeping) ≡ Some k → New k
+            → (if not held || none then None else piece_of (numbered courses e.came) e n keeping) ≡ Some k → New k
         by_held true held true is = absurd (none-some k is)
-        by_held true held false is = by_lot held (numbered lots e.came) is
+        by_held true held false is = by_lot held (numbered courses e.came) is
         by_held false held none is = absurd (none-some k is)
 
-    message_new : (flights made : List TaleFlight) (story : ℕ) (k : Kept) → message_kept (message_about e flights) e n story made ≡ Some k → New k
+    message_new : (flights made : List RecordedFlight) (story : ℕ) (k : Kept) → message_kept (message_about e flights) e n story made ≡ Some k → New k
     message_new flights made story k is = by_test (makes_message e.answer) refl (message_about e flights) refl is
       where
         by_made : makes_message e.answer ≡ true → (about : ℕ) (b : Bool) → (if b then None else Some (new_kept story e n about false)) ≡ Some k → New k
@@ -289,7 +289,7 @@ module _ (es : List TaleEvent) (e : TaleEvent) where
     kept_each story s a =
         let b = up_kept e (kept_ended e n s) in
         let c = kept_begun (waiting_kept e n story) b in
-        each_begun New (piece_kept e n c.lots c.keeping) c (piece_new c.lots c.keeping)
+        each_begun New (piece_kept e n c.courses c.keeping) c (piece_new c.courses c.keeping)
         (each_begun New (waiting_kept e n story) b (waiting_new story) (up_each (kept_ended e n s) (ended_each n s at a)))
 
 none_ready : (act : Act) (s : Stories) → length (settled act s).ready ≡ 0
@@ -299,30 +299,30 @@ none_ready act s = refl
 pub settled_number : (act : Act) (s : Stories) → length (settled act s).owners ≡ seen s + 1
 settled_number act s = omega (arith, settled_count act s, none_ready act s)
 
-module _ (es : List TaleEvent) (e : TaleEvent) (s : Stories) (count : seen s ≡ length es) where
+module _ (es : List RecordedEvent) (e : RecordedEvent) (s : Stories) (count : seen s ≡ length es) where
   number_of : length (settled e.act s).owners ≡ length es + 1
   number_of = let a = settled_number e.act s in omega (arith, a, count)
 
   event_each : Each (IsKeptSince es) s.keeping → Each (New es e) (event_seen e s).keeping
-  unfolding event_seen settled recorded
-  event_each a = by_ready (readies e.act)
+  unfolding event_seen settled stories_after
+  event_each a = by_ready (prepares e.act)
     where
       by_ready : (o : Option ℕ) → Each (New es e) (event_by o e s).keeping
       by_ready (Some node) = ended_each es e (next_event s) (readied node e s) (omega (arith, count)) a
       by_ready None =
           let owned = settled e.act s in
           kept_each es e (length owned.owners) number_of (last_owner owned.owners)
-          (recorded e (length owned.owners) (last_owner owned.owners) owned) a
+          (stories_after e (length owned.owners) (last_owner owned.owners) owned) a
 
-  owners_of : readies e.act ≡ None → length (event_seen e s).owners ≡ length es + 1
-  unfolding event_seen recorded kept_seen
+  owners_of : prepares e.act ≡ None → length (event_seen e s).owners ≡ length es + 1
+  unfolding event_seen stories_after kept_seen
   owners_of none = ap (λ (o : Option ℕ). length (event_by o e s).owners) none ∙ number_of
 
-  announced_each : (flights : List TaleFlight) → MakesNone e → Each (New es e) (event_seen e s).keeping
+  announced_each : (flights : List RecordedFlight) → MakesNone e → Each (New es e) (event_seen e s).keeping
       → Each (New es e) (announced e flights (event_seen e s)).keeping
   unfolding announced
   announced_each flights makes a =
-      each_begun (New es e) (message_kept about e (length t.owners) story (made_by e flights)) t (λ k is. by_ready (readies e.act) refl k is) a
+      each_begun (New es e) (message_kept about e (length t.owners) story (made_by e flights)) t (λ k is. by_ready (prepares e.act) refl k is) a
     where
       t : Stories
       t = event_seen e s
@@ -337,17 +337,17 @@ module _ (es : List TaleEvent) (e : TaleEvent) (s : Stories) (count : seen s ≡
       none_about is =
           ap (λ (b : Bool). if not b then None else (if e.came == 0 then asked_about e.act else about_by (numbered flights e.came))) is
 
-      by_ready : (o : Option ℕ) → readies e.act ≡ o → (k : Kept) → message_kept about e (length t.owners) story (made_by e flights) ≡ Some k
+      by_ready : (o : Option ℕ) → prepares e.act ≡ o → (k : Kept) → message_kept about e (length t.owners) story (made_by e flights) ≡ Some k
           → IsKeptSince (es ++ (e ∷ [])) k
       by_ready None is k new = message_new es e (length t.owners) (owners_of is) flights (made_by e flights) story k new
       by_ready (Some node) is k new =
           absurd (none-some k
           (sym (ap (λ (o : Option ℕ). message_kept o e (length t.owners) story (made_by e flights)) (none_about (makes (ap is_some is)))) ∙ new))
 
--- # A whole tale
+-- # A whole run_record
 
 module _ (P : Kept → Type 0) where
-  flight_each : (f : TaleFlight) (t : Stories) → Each P t.keeping → Each P (flight_seen f t).keeping
+  flight_each : (f : RecordedFlight) (t : Stories) → Each P t.keeping → Each P (flight_seen f t).keeping
   unfolding flight_seen
   flight_each f t a =
       let owner = flight_owner f (last_owner t.owners) t in
@@ -355,33 +355,33 @@ module _ (P : Kept → Type 0) where
       (each_either P (has_kept false owner f.from t.keeping) (others_kept false owner f.from t.keeping) t.keeping
       (each_others P false owner f.from t.keeping a) a) a
 
-  flights_each : (fs : List TaleFlight) (t : Stories) → Each P t.keeping → Each P (flights_seen fs t).keeping
+  flights_each : (fs : List RecordedFlight) (t : Stories) → Each P t.keeping → Each P (flights_seen fs t).keeping
   flights_each [] t a = a
   flights_each (f ∷ fs) t a = flights_each fs (flight_seen f t) (flight_each f t a)
 
-told_each : (es : List TaleEvent) (e : TaleEvent) (flights : List TaleFlight) (s : Stories) → seen s ≡ length es → MakesNone e
-    → Each (IsKeptSince es) s.keeping → Each (IsKeptSince (es ++ (e ∷ []))) (told_seen e flights s).keeping
-unfolding told_seen
-told_each es e flights s count makes a =
+recorded_each : (es : List RecordedEvent) (e : RecordedEvent) (flights : List RecordedFlight) (s : Stories) → seen s ≡ length es → MakesNone e
+    → Each (IsKeptSince es) s.keeping → Each (IsKeptSince (es ++ (e ∷ []))) (record_seen e flights s).keeping
+unfolding record_seen
+recorded_each es e flights s count makes a =
     flights_each (IsKeptSince (es ++ (e ∷ []))) (made_by e flights) (announced e flights (event_seen e s))
     (announced_each es e s count flights makes (event_each es e s count a))
 
-all_first : (e : TaleEvent) (es : List TaleEvent) → All MakesNone (e ∷ es) → MakesNone e
+all_first : (e : RecordedEvent) (es : List RecordedEvent) → All MakesNone (e ∷ es) → MakesNone e
 all_first e es only = only 0 e (omega arith)
 
-all_rest : (e : TaleEvent) (es : List TaleEvent) → All MakesNone (e ∷ es) → All MakesNone es
+all_rest : (e : RecordedEvent) (es : List RecordedEvent) → All MakesNone (e ∷ es) → All MakesNone es
 all_rest e es only = λ k d inside. only (suc k) d (omega (arith, inside))
 
-events_each : (flights : List TaleFlight) (before es : List TaleEvent) (s : Stories) → All MakesNone es → seen s ≡ length before
+events_each : (flights : List RecordedFlight) (before es : List RecordedEvent) (s : Stories) → All MakesNone es → seen s ≡ length before
     → Each (IsKeptSince before) s.keeping → Each (IsKeptSince (before ++ es)) (events_seen flights es s).keeping
-events_each flights before [] s makes count a = subst (λ (xs : List TaleEvent). Each (IsKeptSince xs) s.keeping) (sym (append-nil before)) a
+events_each flights before [] s makes count a = subst (λ (xs : List RecordedEvent). Each (IsKeptSince xs) s.keeping) (sym (append-nil before)) a
 events_each flights before (e ∷ es) s makes count a =
-    let t = told_seen e flights s in
+    let t = record_seen e flights s in
     let more = one_more e flights s in
     let counted : seen t ≡ length (before ++ (e ∷ [])) = omega (arith, more, count, length-append before (e ∷ [])) in
-    subst (λ (xs : List TaleEvent). Each (IsKeptSince xs) (events_seen flights es t).keeping) (append_assoc before (e ∷ []) es)
+    subst (λ (xs : List RecordedEvent). Each (IsKeptSince xs) (events_seen flights es t).keeping) (append_assoc before (e ∷ []) es)
     (events_each flights (before ++ (e ∷ [])) es t (all_rest e es makes) counted
-    (told_each before e flights s count (all_first e es makes) a))
+    (recorded_each before e flights s count (all_first e es makes) a))
 
 pub kept_are_since : KeptAreSince
 unfolding stories_of

@@ -1,4 +1,4 @@
--- An event of a run has not ended what its tale says is kept still.
+-- An event of a run has not ended what its run_record says is kept still.
 use Rattle.std.proofs.Common.{◌≡◌, ℕ, zero, suc, ◌+◌, ◌-◌, Bool, true, false, List, [], ◌∷◌, ◌++◌, length, Some, None, Result, Ok, Err}
 use Rattle.std.proofs.Common.{refl, sym, ap, subst, ◌∙◌, arith}
 use Rattle.std.specs.Prelude.{All, if◌then◌else◌, is_some, slice_get}
@@ -23,15 +23,15 @@ use Rattle.line_rules.specs.Worlds.{World, Trace, start}
 use Rattle.line_record.specs.declared.kept.Kept.{Kept}
 use Rattle.line_record.specs.declared.kept.KeptEnd.{KeptEnd}
 use Rattle.line_record.specs.declared.kept.KeptEnd.TheVariants as kept_ends
-use Rattle.line_record.specs.declared.recorded.TaleEvent.{TaleEvent}
+use Rattle.line_record.specs.declared.recorded.RecordedEvent.{RecordedEvent}
 use Rattle.line_record.specs.Acts.{act_of}
 use Rattle.line_record.specs.KeptItems.{end_of, is_still, makes_message}
-use Rattle.line_record.specs.Kinds.{readies}
+use Rattle.line_record.specs.Kinds.{prepares}
 use Rattle.line_record.specs.RunRecords.{numbered}
-use Rattle.story_laws.specs.Ends.{EndedKept, HaltsUnsaid, IsNamed, IsNone, IsToldRight, told_by}
+use Rattle.story_laws.specs.Ends.{EndedKept, HaltsUnsaid, IsNamed, IsNone, IsRecordedRight, recorded_by}
 use Rattle.story_laws.specs.Keepings.{MakesNone}
-use Rattle.story_laws.specs.KeptRuns.{AreTold, IsToldOf, RunsKeepIt, left_after}
-use Rattle.story_laws.proofs.Ends.{still_named, told_ends_are_so}
+use Rattle.story_laws.specs.KeptRuns.{AreRecorded, IsRecordedOf, RunsKeepIt, left_after}
+use Rattle.story_laws.proofs.Ends.{still_named, recorded_ends_are_so}
 use Rattle.story_laws.proofs.Keepings.{kept_are_since}
 
 true_false : true ≡ false → ⊥
@@ -76,7 +76,7 @@ rand_plain : (w : World) (number : ℕ) (value : RandomOctets) → StepHas NoMes
 unfolding rand
 rand_plain w number value = once NoMessage w _ (at_node NoMessage w number _ (λ x e. Taken _ (random_plain _)))
 
-makes_none : (w v : World) (d : Trace) (event : Event) → line_step network w event ≡ Ok (v, d) → is_some (readies (act_of event)) ≡ true
+makes_none : (w v : World) (d : Trace) (event : Event) → line_step network w event ≡ Ok (v, d) → is_some (prepares (act_of event)) ≡ true
     → makes_message d.happenings.answer ≡ false
 makes_none w v d (events.Coordinator eui key) e readied = absurd (true_false (sym readied))
 makes_none w v d (events.Meter eui psk) e readied = absurd (true_false (sym readied))
@@ -107,21 +107,21 @@ makes_none w v d (events.Scan node) e readied = absurd (true_false (sym readied)
 makes_none w v d (events.Choose node k) e readied = absurd (true_false (sym readied))
 makes_none w v d (events.Path from to) e readied = absurd (true_false (sym readied))
 
--- # The tale of a run
+-- # The run_record of a run
 
-told_none : (w : World) (x : Entry) (e : TaleEvent) → line_step network w x.event ≡ Ok (x.after, x.trace) → IsToldOf x e → MakesNone e
-told_none w x e step told =
-    subst MakesNone (sym told.is) (makes_none w x.after x.trace x.event step)
+recorded_none : (w : World) (x : Entry) (e : RecordedEvent) → line_step network w x.event ≡ Ok (x.after, x.trace) → IsRecordedOf x e → MakesNone e
+recorded_none w x e step recorded =
+    subst MakesNone (sym recorded.is) (makes_none w x.after x.trace x.event step)
 
-all_more : (e : TaleEvent) (es : List TaleEvent) → MakesNone e → All MakesNone es → All MakesNone (e ∷ es)
+all_more : (e : RecordedEvent) (es : List RecordedEvent) → MakesNone e → All MakesNone es → All MakesNone (e ∷ es)
 all_more e es one rest zero d inside = one
 all_more e es one rest (suc k) d inside = rest k d (omega (arith, inside))
 
-all_none : (xs : List Entry) (es : List TaleEvent) (w : World) → IsRun network w xs → AreTold xs es → All MakesNone es
-all_none [] [] w run told = λ k d inside. absurd (omega (arith, inside))
-all_none [] (e ∷ es) w run told = absurd told
-all_none (x ∷ xs) [] w run told = absurd told
-all_none (x ∷ xs) (e ∷ es) w run told = all_more e es (told_none w x e run.2 told.0) (all_none xs es x.after run.3 told.1)
+all_none : (xs : List Entry) (es : List RecordedEvent) (w : World) → IsRun network w xs → AreRecorded xs es → All MakesNone es
+all_none [] [] w run recorded = λ k d inside. absurd (omega (arith, inside))
+all_none [] (e ∷ es) w run recorded = absurd recorded
+all_none (x ∷ xs) [] w run recorded = absurd recorded
+all_none (x ∷ xs) (e ∷ es) w run recorded = all_more e es (recorded_none w x e run.2 recorded.0) (all_none xs es x.after run.3 recorded.1)
 
 -- the step of an entry of a run
 step_at : (before after : List Entry) (x : Entry) (w : World) → IsRun network w (before ++ (x ∷ after))
@@ -129,38 +129,38 @@ step_at : (before after : List Entry) (x : Entry) (w : World) → IsRun network 
 step_at [] after x w run = run.2
 step_at (y ∷ ys) after x w run = step_at ys after x y.after run.3
 
--- what is told of an entry, at its place
-record IsToldAt (x : Entry) (n : ℕ) (es : List TaleEvent) : Type 0 where
-  event : TaleEvent
+-- what is recorded of an entry, at its place
+record IsRecordedAt (x : Entry) (n : ℕ) (es : List RecordedEvent) : Type 0 where
+  event : RecordedEvent
   there : slice_get es n ≡ Some event
-  told : IsToldOf x event
+  recorded : IsRecordedOf x event
 
-told_at : (before after : List Entry) (x : Entry) (es : List TaleEvent) → AreTold (before ++ (x ∷ after)) es → IsToldAt x (length before) es
-told_at [] after x [] told = absurd told
-told_at [] after x (e ∷ es) told = record { event = e; there = refl; told = told.0 }
-told_at (y ∷ ys) after x [] told = absurd told
-told_at (y ∷ ys) after x (e ∷ es) told =
-    let at = told_at ys after x es told.1 in record { event = at.event; there = at.there; told = at.told }
+recorded_at : (before after : List Entry) (x : Entry) (es : List RecordedEvent) → AreRecorded (before ++ (x ∷ after)) es → IsRecordedAt x (length before) es
+recorded_at [] after x [] recorded = absurd recorded
+recorded_at [] after x (e ∷ es) recorded = record { event = e; there = refl; recorded = recorded.0 }
+recorded_at (y ∷ ys) after x [] recorded = absurd recorded
+recorded_at (y ∷ ys) after x (e ∷ es) recorded =
+    let at = recorded_at ys after x es recorded.1 in record { event = at.event; there = at.there; recorded = at.recorded }
 
-numbered_at : (es : List TaleEvent) (n : ℕ) → numbered es (n + 1) ≡ slice_get es n
+numbered_at : (es : List RecordedEvent) (n : ℕ) → numbered es (n + 1) ≡ slice_get es n
 numbered_at es n =
     ap (λ (b : Bool). if b then None else slice_get es (n + 1 - 1)) (ne_eqb (n + 1) 0 (λ e. absurd (omega (arith, e))))
     ∙ ap (λ (k : ℕ). slice_get es k) (omega arith)
 
--- where nothing is told of an end, there was none
-none_ended : (w : World) (event : Event) (k : Kept) (n : ℕ) (r : World × Trace) (end : KeptEnd) → IsToldRight w event k n r end → end ≡ kept_ends.Still
+-- where nothing is recorded of an end, there was none
+none_ended : (w : World) (event : Event) (k : Kept) (n : ℕ) (r : World × Trace) (end : KeptEnd) → IsRecordedRight w event k n r end → end ≡ kept_ends.Still
     → EndedKept w event k r → HaltsUnsaid event k r
 none_ended w event k n r end (IsNamed named) still ended =
     absurd (still_named w event k n r end (ap is_still still) named)
 none_ended w event k n r end (IsNone is halts) still ended = halts ended
 
 pub runs_keep_it : RunsKeepIt
-runs_keep_it before after x events flights run told k among later l there ended =
-    let since = kept_are_since events flights (all_none (before ++ (x ∷ after)) events start run told) k among in
-    let at = told_at before after x events told in
+runs_keep_it before after x events flights run recorded k among later l there ended =
+    let since = kept_are_since events flights (all_none (before ++ (x ∷ after)) events start run recorded) k among in
+    let at = recorded_at before after x events recorded in
     let w = left_after before start in
     let n : ℕ = length before + 1 in
     let still : end_of n at.event k ≡ kept_ends.Still = since.still n at.event later (numbered_at events (length before) ∙ at.there) in
-    none_ended w x.event k n (x.after, x.trace) (end_of n (told_by at.told.row at.told.same x.event (x.after, x.trace)) k)
-    (told_ends_are_so network w x.after x.event x.trace (step_at before after x start run) k l there at.told.row at.told.same n)
-    (ap (λ (e : TaleEvent). end_of n e k) (sym at.told.is) ∙ still) ended
+    none_ended w x.event k n (x.after, x.trace) (end_of n (recorded_by at.recorded.row at.recorded.same x.event (x.after, x.trace)) k)
+    (recorded_ends_are_so network w x.after x.event x.trace (step_at before after x start run) k l there at.recorded.row at.recorded.same n)
+    (ap (λ (e : RecordedEvent). end_of n e k) (sym at.recorded.is) ∙ still) ended

@@ -8,13 +8,13 @@ use Rattle.line_progress.proofs.PieceFates.{among_front}
 use Rattle.line_record.specs.declared.act.Act.{Act}
 use Rattle.line_record.specs.declared.act.Act.TheVariants as acts
 use Rattle.line_record.specs.declared.kept.Kept.{Kept}
-use Rattle.line_record.specs.declared.recorded.TaleEvent.{TaleEvent}
-use Rattle.line_record.specs.declared.recorded.TaleFlight.{TaleFlight}
-use Rattle.line_record.specs.Kinds.{readies, sends}
+use Rattle.line_record.specs.declared.recorded.RecordedEvent.{RecordedEvent}
+use Rattle.line_record.specs.declared.recorded.RecordedFlight.{RecordedFlight}
+use Rattle.line_record.specs.Kinds.{prepares, sends}
 use Rattle.line_record.specs.RunRecords.{made_by}
 use Rattle.line_stories.specs.NodeItems.{is_waiting, keeping_begun, keeping_left, message_about, message_kept, new_kept, piece_kept, waiting_kept}
 use Rattle.line_stories.specs.Stories.{Stories, announced, event_by, event_seen, events_seen, flight_owner, flight_seen, flights_seen, kept_begun}
-use Rattle.line_stories.specs.Stories.{kept_ended, kept_seen, last_owner, may_leave, message_story, no_stories, recorded, settled, told_seen, up_kept}
+use Rattle.line_stories.specs.Stories.{kept_ended, kept_seen, last_owner, may_leave, message_story, no_stories, stories_after, settled, record_seen, up_kept}
 use Rattle.line_stories.proofs.Counts.{events_count, seen}
 use Rattle.story_laws.specs.Keepings.{BeginsToWait, WaitsAreKept}
 use Rattle.story_laws.proofs.Keepings.{settled_number}
@@ -22,7 +22,7 @@ use Rattle.story_laws.proofs.Keepings.{settled_number}
 true_false : true ≡ false → ⊥
 true_false e = cc
 
-readies_none : (act : Act) (word : Answer) → sends act word ≡ true → readies act ≡ None
+readies_none : (act : Act) (word : Answer) → sends act word ≡ true → prepares act ≡ None
 readies_none (acts.Coordinator eui) word is = refl
 readies_none (acts.Meter eui) word is = refl
 readies_none (acts.Depot node) word is = refl
@@ -66,7 +66,7 @@ record Holds (k : Kept) (owners : List ℕ) (t : Stories) : Type 0 where
   inside : Among k t.keeping
   same : t.owners ≡ owners
 
-announced_holds : (k : Kept) (owners : List ℕ) (e : TaleEvent) (flights : List TaleFlight) (t : Stories) → Holds k owners t
+announced_holds : (k : Kept) (owners : List ℕ) (e : RecordedEvent) (flights : List RecordedFlight) (t : Stories) → Holds k owners t
     → Holds k owners (announced e flights t)
 unfolding announced
 announced_holds k owners e flights t h = record {
@@ -77,7 +77,7 @@ announced_holds k owners e flights t h = record {
   same = h.same;
 }
 
-flight_holds : (k : Kept) (owners : List ℕ) (f : TaleFlight) (t : Stories) → may_leave f ≡ false → Holds k owners t → Holds k owners (flight_seen f t)
+flight_holds : (k : Kept) (owners : List ℕ) (f : RecordedFlight) (t : Stories) → may_leave f ≡ false → Holds k owners t → Holds k owners (flight_seen f t)
 unfolding flight_seen
 flight_holds k owners f t stays h = record {
   inside =
@@ -85,7 +85,7 @@ flight_holds k owners f t stays h = record {
   same = h.same;
 }
 
-flights_hold : (k : Kept) (owners : List ℕ) (fs : List TaleFlight) (t : Stories) → ((f : TaleFlight) → Among f fs → may_leave f ≡ false)
+flights_hold : (k : Kept) (owners : List ℕ) (fs : List RecordedFlight) (t : Stories) → ((f : RecordedFlight) → Among f fs → may_leave f ≡ false)
     → Holds k owners t → Holds k owners (flights_seen fs t)
 flights_hold k owners [] t stay h = h
 flights_hold k owners (f ∷ fs) t stay h =
@@ -93,7 +93,7 @@ flights_hold k owners (f ∷ fs) t stay h =
 
 -- # One event
 
-module _ (before : List TaleEvent) (e : TaleEvent) (s : Stories) (count : seen s ≡ length before) (asks : sends e.act e.answer ≡ true)
+module _ (before : List RecordedEvent) (e : RecordedEvent) (s : Stories) (count : seen s ≡ length before) (asks : sends e.act e.answer ≡ true)
     (waits : is_waiting e.answer ≡ true) where
   abbrev owned : Stories
   owned = settled e.act s
@@ -110,13 +110,13 @@ module _ (before : List TaleEvent) (e : TaleEvent) (s : Stories) (count : seen s
   begun : waiting_kept e number story ≡ Some kept
   begun = λ i. if asks i && waits i then Some kept else None
 
-  kept_holds : Holds kept owned.owners (kept_seen e number story (recorded e number story owned))
-  unfolding kept_seen recorded
+  kept_holds : Holds kept owned.owners (kept_seen e number story (stories_after e number story owned))
+  unfolding kept_seen stories_after
   kept_holds =
-      let b = up_kept e (kept_ended e number (recorded e number story owned)) in
+      let b = up_kept e (kept_ended e number (stories_after e number story owned)) in
       let c = kept_begun (waiting_kept e number story) b in
       record {
-        inside = begun_inside kept (piece_kept e number c.lots c.keeping) c.keeping (begun_last kept (waiting_kept e number story) b.keeping begun);
+        inside = begun_inside kept (piece_kept e number c.courses c.keeping) c.keeping (begun_last kept (waiting_kept e number story) b.keeping begun);
         same = refl;
       }
 
@@ -124,10 +124,10 @@ module _ (before : List TaleEvent) (e : TaleEvent) (s : Stories) (count : seen s
   unfolding event_seen
   event_holds = subst (λ (o : Option ℕ). Holds kept owned.owners (event_by o e s)) (sym (readies_none e.act e.answer asks)) kept_holds
 
-  told_begins : (flights : List TaleFlight) → ((f : TaleFlight) → Among f (made_by e flights) → may_leave f ≡ false)
-      → BeginsToWait e (length before + 1) (told_seen e flights s)
-  unfolding told_seen
-  told_begins flights stay =
+  recorded_begins : (flights : List RecordedFlight) → ((f : RecordedFlight) → Among f (made_by e flights) → may_leave f ≡ false)
+      → BeginsToWait e (length before + 1) (record_seen e flights s)
+  unfolding record_seen
+  recorded_begins flights stay =
       let t = event_seen e s in
       let h =
       flights_hold kept owned.owners (made_by e flights) (announced e flights t) stay (announced_holds kept owned.owners e flights t event_holds) in
@@ -141,10 +141,10 @@ module _ (before : List TaleEvent) (e : TaleEvent) (s : Stories) (count : seen s
         story = ap last_owner (sym h.same);
       }
 
-events_through : (flights : List TaleFlight) (before after : List TaleEvent) (s : Stories)
+events_through : (flights : List RecordedFlight) (before after : List RecordedEvent) (s : Stories)
     → events_seen flights (before ++ after) s ≡ events_seen flights after (events_seen flights before s)
 events_through flights [] after s = refl
-events_through flights (e ∷ es) after s = events_through flights es after (told_seen e flights s)
+events_through flights (e ∷ es) after s = events_through flights es after (record_seen e flights s)
 
 pub waits_are_kept : WaitsAreKept
 waits_are_kept before e flights asks waits stay =
@@ -152,4 +152,4 @@ waits_are_kept before e flights asks waits stay =
     let counted = events_count flights before no_stories in
     let count : seen s ≡ length before = omega (arith, counted) in
     subst (λ (t : Stories). BeginsToWait e (length before + 1) t) (sym (events_through flights before (e ∷ []) no_stories))
-    (told_begins before e s count asks waits flights stay)
+    (recorded_begins before e s count asks waits flights stay)

@@ -1,4 +1,4 @@
--- How an event ends what a node keeps of a story, by the rules of the network and by what is told of the event.
+-- How an event ends what a node keeps of a story, by the rules of the network and by what is recorded of the event.
 use Rattle.std.specs.Prelude.{◌≡◌, ℕ, ◌+◌, ◌-◌, ◌||◌, ◌&&◌, Bool, true, false, not, None, Some, Ok, ◌⊎◌}
 use Rattle.plc_base.specs.Times.{is_within}
 use Rattle.node_rules.specs.Ciphers.{Ciphers}
@@ -15,15 +15,15 @@ use Rattle.line_progress.specs.UnitFates.{is_datagram_end}
 use Rattle.line_record.specs.declared.kept.Kept.{Kept}
 use Rattle.line_record.specs.declared.kept.KeptEnd.{KeptEnd}
 use Rattle.line_record.specs.declared.kept.KeptEnd.TheVariants as kept_ends
-use Rattle.line_record.specs.declared.recorded.TaleEvent.{TaleEvent}
+use Rattle.line_record.specs.declared.recorded.RecordedEvent.{RecordedEvent}
 use Rattle.line_record.specs.Acts.{act_of}
 use Rattle.line_record.specs.KeptItems.{end_of, is_power_lost, time_of}
 use Rattle.line_record.specs.Kinds.{actor_of, is_dropped, is_reported}
-use Rattle.line_record.specs.RunRecords.{event_told}
+use Rattle.line_record.specs.RunRecords.{recorded_event}
 
--- what is told of an event of a line that made the world what it is: of a line of this number, and where it injects the octets of a flight, of that one
-abbrev pub told_by : (row same : ℕ) → Event → World × Trace → TaleEvent
-told_by row same event r = event_told row event r.1.happenings r.0.clock same
+-- what is recorded of an event of a line that made the world what it is: of a line of this number, and where it injects the octets of a flight, of that one
+abbrev pub recorded_by : (row same : ℕ) → Event → World × Trace → RecordedEvent
+recorded_by row same event r = recorded_event row event r.1.happenings r.0.clock same
 
 -- how an event ends what a node has kept for so long
 abbrev pub EndedKept : World → Event → Kept → World × Trace → Type 0
@@ -41,24 +41,24 @@ pub data IsNamedEnd (w : World) (event : Event) (k : Kept) (n : ℕ) (r : World 
 abbrev pub HaltsUnsaid : Event → Kept → World × Trace → Type 0
 HaltsUnsaid event k r = (hides_a_loss event ≡ true) × (station_at r.0 k.node ≡ None)
 
--- where an event of a line ends what a node that runs has kept, the end that is told is of that kind, or nothing says that the node has halted
-abbrev pub EndsAreTold : Type 0
-EndsAreTold =
+-- where an event of a line ends what a node that runs has kept, the end that is recorded is of that kind, or nothing says that the node has halted
+abbrev pub EndsAreRecorded : Type 0
+EndsAreRecorded =
     (ciphers : Ciphers) (w v : World) (event : Event) (d : Trace) → line_step ciphers w event ≡ Ok (v, d)
     → (k : Kept) (l : StationMemory) → station_at w k.node ≡ Some l → EndedKept w event k (v, d)
-    → (row same n : ℕ) → IsNamedEnd w event k n (v, d) (end_of n (told_by row same event (v, d)) k) ⊎ HaltsUnsaid event k (v, d)
+    → (row same n : ℕ) → IsNamedEnd w event k n (v, d) (end_of n (recorded_by row same event (v, d)) k) ⊎ HaltsUnsaid event k (v, d)
 
--- What is told of an end is so: it is of the kind that is named, and where none is named the event did not end what is kept, unless nothing says that
+-- What is recorded of an end is so: it is of the kind that is named, and where none is named the event did not end what is kept, unless nothing says that
 -- the node has halted.
-pub data IsToldRight (w : World) (event : Event) (k : Kept) (n : ℕ) (r : World × Trace) (end : KeptEnd) : Type 0 where
-  IsNamed : IsNamedEnd w event k n r end → IsToldRight w event k n r end
-  IsNone : end ≡ kept_ends.Still → (EndedKept w event k r → HaltsUnsaid event k r) → IsToldRight w event k n r end
+pub data IsRecordedRight (w : World) (event : Event) (k : Kept) (n : ℕ) (r : World × Trace) (end : KeptEnd) : Type 0 where
+  IsNamed : IsNamedEnd w event k n r end → IsRecordedRight w event k n r end
+  IsNone : end ≡ kept_ends.Still → (EndedKept w event k r → HaltsUnsaid event k r) → IsRecordedRight w event k n r end
 
-abbrev pub ToldEndsAreSo : Type 0
-ToldEndsAreSo =
+abbrev pub RecordedEndsAreSo : Type 0
+RecordedEndsAreSo =
     (ciphers : Ciphers) (w v : World) (event : Event) (d : Trace) → line_step ciphers w event ≡ Ok (v, d)
     → (k : Kept) (l : StationMemory) → station_at w k.node ≡ Some l
-    → (row same n : ℕ) → IsToldRight w event k n (v, d) (end_of n (told_by row same event (v, d)) k)
+    → (row same n : ℕ) → IsRecordedRight w event k n (v, d) (end_of n (recorded_by row same event (v, d)) k)
 
 -- # Answers
 

@@ -1,16 +1,16 @@
 //! Laws of what stories say: each stands as the contract of a function that does nothing.
-ghost use Rattle.story_laws.specs.Ends.{DropsAreEnds, EndsAreTold, ToldEndsAreSo};
+ghost use Rattle.story_laws.specs.Ends.{DropsAreEnds, EndsAreRecorded, RecordedEndsAreSo};
 ghost use Rattle.story_laws.specs.Keepings.{KeptAreSince, WaitsAreKept};
 ghost use Rattle.story_laws.specs.KeptRuns.{RunsKeepIt};
 
 /// Where an event of a line ends what a node keeps, its story says so, with the kind of the end.
-pub fn ends_are_told()
-    ensures { EndsAreTold }
+pub fn ends_are_recorded()
+    ensures { EndsAreRecorded }
 {}
 
 /// Where the story of what a node keeps says how an event of a line ended it, so it was; and where it says that it is kept still, no event ended it.
-pub fn told_ends_are_so()
-    ensures { ToldEndsAreSo }
+pub fn recorded_ends_are_so()
+    ensures { RecordedEndsAreSo }
 {}
 
 /// The answers by which a story says that a datagram ended at a node are those that end it by the rules, and `BadUnit`.
@@ -18,12 +18,12 @@ pub fn drops_are_ends()
     ensures { DropsAreEnds }
 {}
 
-/// What a node keeps of a story still at the end of a tale began at its event, and no later event ended it.
+/// What a node keeps of a story still at the end of a run_record began at its event, and no later event ended it.
 pub fn kept_are_since()
     ensures { KeptAreSince }
 {}
 
-/// Of a run and its tale: what a story says a node keeps still, an event of the run after the one at which it began has not ended.
+/// Of a run and its run_record: what a story says a node keeps still, an event of the run after the one at which it began has not ended.
 pub fn runs_keep_it()
     ensures { RunsKeepIt }
 {}
