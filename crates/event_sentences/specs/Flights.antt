@@ -3,10 +3,10 @@ use Rattle.std.specs.Prelude.{ℕ, ◌+◌, ◌-◌, ◌==◌, Bool, true, false
 use Rattle.std.specs.List.{find}
 use Rattle.std.specs.Fmt.{decimal}
 use Rattle.plc_base.specs.declared.address.Eui.{Eui}
-use Rattle.frame_words.specs.declared.gist.Gist.{Gist}
-use Rattle.frame_words.specs.declared.gist.Gist.TheVariants as gists
-use Rattle.frame_words.specs.declared.kind.PayloadKind.{PayloadKind}
-use Rattle.frame_words.specs.declared.kind.PayloadKind.TheVariants as kinds
+use Rattle.frame_facts.specs.declared.gist.Gist.{Gist}
+use Rattle.frame_facts.specs.declared.gist.Gist.TheVariants as gists
+use Rattle.frame_facts.specs.declared.kind.PayloadKind.{PayloadKind}
+use Rattle.frame_facts.specs.declared.kind.PayloadKind.TheVariants as kinds
 use Rattle.line_record.specs.declared.recorded.RecordedFlight.{RecordedFlight}
 use Rattle.sentence_parts.specs.declared.part.Who.{Who}
 use Rattle.sentence_parts.specs.declared.part.Who.TheVariants.{Nobody}

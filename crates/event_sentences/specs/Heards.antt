@@ -8,11 +8,11 @@ use Rattle.mac_frames.specs.declared.head.MacHead.TheVariants.{Sealed, Up, Down}
 use Rattle.mac_frames.specs.declared.fault.FrameFaultKind.{FrameFaultKind}
 use Rattle.mac_frames.specs.Faults.{frame_fault}
 use Rattle.mac_frames.specs.Reader.{head_in}
-use Rattle.frame_words.specs.declared.gist.FrameTarget.{FrameTarget}
-use Rattle.frame_words.specs.declared.gist.FrameTarget.TheVariants as targets
-use Rattle.frame_details.specs.declared.detail.FlightMore.{FlightMore}
-use Rattle.frame_details.specs.Details.{more_of}
-use Rattle.frame_details.specs.Payloads.{payload_of}
+use Rattle.frame_facts.specs.declared.gist.FrameTarget.{FrameTarget}
+use Rattle.frame_facts.specs.declared.gist.FrameTarget.TheVariants as targets
+use Rattle.frame_facts.specs.declared.detail.FlightMore.{FlightMore}
+use Rattle.frame_facts.specs.Details.{more_of}
+use Rattle.frame_facts.specs.Payloads.{payload_of}
 use Rattle.line_record.specs.declared.recorded.RecordedFlight.{RecordedFlight}
 use Rattle.line_record.specs.RunRecords.{recorded_flight}
 use Rattle.sentence_parts.specs.declared.part.Who.{Who}

@@ -4,10 +4,10 @@ use Rattle.plc_base.specs.declared.address.Eui.{Eui}
 use Rattle.line_events.specs.declared.event.Answer.{Answer}
 use Rattle.line_events.specs.declared.event.Answer.TheVariants as answers
 use Rattle.line_script.specs.AnswerWords.{answer_word}
-use Rattle.frame_details.specs.declared.detail.Detail.{Detail}
-use Rattle.frame_details.specs.declared.detail.Detail.TheVariants as details
-use Rattle.frame_words.specs.declared.gist.Gist.{Gist}
-use Rattle.frame_words.specs.declared.gist.Gist.TheVariants as gists
+use Rattle.frame_facts.specs.declared.detail.Detail.{Detail}
+use Rattle.frame_facts.specs.declared.detail.Detail.TheVariants as details
+use Rattle.frame_facts.specs.declared.gist.Gist.{Gist}
+use Rattle.frame_facts.specs.declared.gist.Gist.TheVariants as gists
 use Rattle.sentence_parts.specs.declared.part.Part.{Part}
 use Rattle.sentence_parts.specs.declared.part.Part.TheVariants.{Words, Number, Node, Place, Short}
 use Rattle.sentence_parts.specs.Parts.{parts_text}

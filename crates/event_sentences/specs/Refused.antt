@@ -7,11 +7,11 @@ use Rattle.line_events.specs.declared.event.Answer.{Answer}
 use Rattle.line_events.specs.declared.event.Answer.TheVariants as answers
 use Rattle.line_record.specs.declared.act.Act.{Act}
 use Rattle.line_record.specs.declared.act.Act.TheVariants as acts
-use Rattle.frame_details.specs.declared.detail.Detail.{Detail}
-use Rattle.frame_details.specs.declared.detail.Detail.TheVariants as details
-use Rattle.frame_words.specs.declared.gist.Gist.{Gist}
-use Rattle.frame_words.specs.declared.gist.Gist.TheVariants as gists
-use Rattle.frame_words.specs.Kinds.{kind_word}
+use Rattle.frame_facts.specs.declared.detail.Detail.{Detail}
+use Rattle.frame_facts.specs.declared.detail.Detail.TheVariants as details
+use Rattle.frame_facts.specs.declared.gist.Gist.{Gist}
+use Rattle.frame_facts.specs.declared.gist.Gist.TheVariants as gists
+use Rattle.frame_facts.specs.Kinds.{kind_word}
 use Rattle.sentence_parts.specs.declared.part.Part.TheVariants.{Words, Number, Node, Short}
 use Rattle.sentence_parts.specs.Parts.{parts_text}
 use Rattle.event_sentences.specs.declared.heard.Heard.{Heard}

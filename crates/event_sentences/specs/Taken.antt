@@ -3,10 +3,10 @@ use Rattle.std.specs.Prelude.{ℕ, ◌==◌, Bool, true, false, List, [], ◌∷
 use Rattle.line_events.specs.declared.event.Answer.{Answer}
 use Rattle.line_events.specs.declared.event.Answer.TheVariants as answers
 use Rattle.line_record.specs.declared.recorded.RecordedFlight.{RecordedFlight}
-use Rattle.frame_details.specs.declared.detail.Detail.{Detail}
-use Rattle.frame_details.specs.declared.detail.Detail.TheVariants as details
-use Rattle.frame_words.specs.declared.gist.Gist.{Gist}
-use Rattle.frame_words.specs.declared.gist.Gist.TheVariants as gists
+use Rattle.frame_facts.specs.declared.detail.Detail.{Detail}
+use Rattle.frame_facts.specs.declared.detail.Detail.TheVariants as details
+use Rattle.frame_facts.specs.declared.gist.Gist.{Gist}
+use Rattle.frame_facts.specs.declared.gist.Gist.TheVariants as gists
 use Rattle.sentence_parts.specs.declared.part.Part.TheVariants.{Words, Number, Node, Place}
 use Rattle.sentence_parts.specs.Parts.{parts_text}
 use Rattle.event_sentences.specs.declared.claim.Deed.{Deed}

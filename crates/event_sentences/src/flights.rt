@@ -4,7 +4,7 @@ ghost use Rattle.std.specs.List.{find};
 ghost use Rattle.std.specs.Option.{option_copied};
 ghost use Rattle.event_sentences.specs.Flights as flights;
 
-use frame_words::{Gist, PayloadKind};
+use frame_facts::{Gist, PayloadKind};
 use line_record::RecordedFlight;
 use plc_base::Eui;
 use sentence_parts::{Who, number, push_parts, sentence, who_of, words};

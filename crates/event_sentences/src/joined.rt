@@ -5,8 +5,8 @@ ghost use Rattle.event_sentences.specs.Joined as spec_joined;
 
 use crate::heard::Heard;
 use crate::moment::Moment;
-use frame_details::Detail;
-use frame_words::Gist;
+use frame_facts::Detail;
+use frame_facts::Gist;
 use line_events::Answer;
 use line_script::answer_word;
 use plc_base::Eui;

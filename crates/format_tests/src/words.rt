@@ -1,4 +1,4 @@
-use frame_words::{PayloadKind, kind_word, payload_kind};
+use frame_facts::{PayloadKind, kind_word, payload_kind};
 use plc_base::LONGEST_FRAME;
 use std::test::Fail;
 

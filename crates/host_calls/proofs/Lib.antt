@@ -1,1 +1,4 @@
 pub mod WrittenTexts
+pub mod ItemLemmas
+pub mod ReadLemmas
+pub mod OutboxLemmas

@@ -3,7 +3,7 @@ use Rattle.std.specs.Prelude.{ℕ, List, [], ◌∷◌, ◌++◌, Option, Some, 
 use Rattle.byteorder.specs.Endian.{big_bytes}
 use Rattle.plc_base.specs.Keeper.{Write}
 use Rattle.plc_base.specs.declared.out_frame.OutFrame.{OutFrame}
-use Rattle.host_items.specs.Items.{spelling}
+use Rattle.host_calls.specs.Items.{spelling}
 use Rattle.host_calls.specs.declared.answers.Given.{Given}
 use Rattle.host_calls.specs.declared.status.Status.{Status}
 use Rattle.host_calls.specs.declared.status.Status.TheVariants.{Done, Refused, Halted, BadStore, Malformed, Memory}

@@ -1,2 +1,5 @@
 pub mod Calls
 pub mod Answers
+pub mod Items
+pub mod ItemReader
+pub mod Outbox

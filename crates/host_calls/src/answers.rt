@@ -1,12 +1,12 @@
 //! Answers, as items.
 ghost use Rattle.std.specs.Prelude.{◌≡◌, map, IfOk};
 ghost use Rattle.plc_base.specs.Streams.{HasWritten};
-ghost use Rattle.outbox_keeper.specs.Outbox.{write_of};
+ghost use Rattle.host_calls.specs.Outbox.{write_of};
 ghost use Rattle.host_calls.specs.Answers.{none_given, put_text, frame_text, puts_text, frames_text, joined_text, up_text, status_text, answer_text};
 
 use crate::status::Status;
-use host_items::{ItemOctets, write_item};
-use outbox_keeper::ListedPut;
+use crate::{ItemOctets, write_item};
+use crate::ListedPut;
 use plc_base::{Failed, Out, OutFrame, Short, Sink};
 use std::alloc::{AllocError, Global};
 

@@ -1,1 +1,4 @@
 mod MessageSenders
+mod Order
+mod Reach
+mod Written

@@ -4,20 +4,20 @@ use Rattle.std.proofs.lemmas.Bool.{and_parts}
 use Rattle.line_place.specs.declared.link.Link.{Link}
 use Rattle.plan_tables.specs.declared.tables.Way.{Way}
 use Rattle.plan_tables.specs.declared.tables.Way.TheVariants.{Push, Poll as PollWay}
-use Rattle.line_members.specs.declared.acts.Act.TheVariants.{Step, Put}
-use Rattle.line_members.specs.declared.acts.Acts.TheVariants.{One, Two}
-use Rattle.line_members.specs.declared.acts.Command.TheVariants.{Restart}
-use Rattle.line_members.specs.declared.acts.Task.TheVariants as tasks
-use Rattle.line_members.specs.declared.acts.Task.TheVariants.{TryJoin}
-use Rattle.line_members.specs.declared.agents.Agent.{Agent}
-use Rattle.line_members.specs.declared.member.Choice.TheVariants.{Waiting, Challenged, Settled}
-use Rattle.line_members.specs.Members.{member_at, nth_of}
-use Rattle.line_members.specs.Agents.{agent_of_turn}
-use Rattle.line_members.specs.Asked.{reading_at}
-use Rattle.line_members.specs.Times.{micros, later}
+use Rattle.line_owner.specs.declared.acts.Act.TheVariants.{Step, Put}
+use Rattle.line_owner.specs.declared.acts.Acts.TheVariants.{One, Two}
+use Rattle.line_owner.specs.declared.acts.Command.TheVariants.{Restart}
+use Rattle.line_owner.specs.declared.acts.Task.TheVariants as tasks
+use Rattle.line_owner.specs.declared.acts.Task.TheVariants.{TryJoin}
+use Rattle.line_owner.specs.declared.agents.Agent.{Agent}
+use Rattle.line_owner.specs.declared.member.Choice.TheVariants.{Waiting, Challenged, Settled}
+use Rattle.line_owner.specs.Members.{member_at, nth_of}
+use Rattle.line_owner.specs.Agents.{agent_of_turn}
+use Rattle.line_owner.specs.Asked.{reading_at}
+use Rattle.line_owner.specs.Times.{micros, later}
 use Rattle.std.specs.Prelude.{is_some}
 use Rattle.line_owner.specs.declared.owner.Change.{Change}
-use Rattle.line_members.specs.declared.acts.Acts.{Acts}
+use Rattle.line_owner.specs.declared.acts.Acts.{Acts}
 use Rattle.line_owner.specs.States.{OwnerState, Turned, does, with_node, gives, fails, restores}
 use Rattle.line_owner.specs.Setups.{makes, enters, draws_join, round_at, round_acts_by, puts_round, draws_read}
 use Rattle.line_owner.specs.Joins.{joins_by, joins_with_power, tries_to_join}

@@ -3,19 +3,19 @@ use Rattle.std.specs.Prelude.{ℕ, ◌+◌, ◌-◌, ◌^◌, min, eqb, leb, con
 use Rattle.air_draws.specs.Draws.{below, key_octets}
 use Rattle.plan_tables.specs.declared.tables.Order.{Order as Way}
 use Rattle.plan_tables.specs.declared.tables.Order.TheVariants.{CoordinatorFirst, CoordinatorLast, MeterByMeter}
-use Rattle.line_members.specs.declared.member.Choice.TheVariants.{Waiting, Challenged, Settled}
-use Rattle.line_members.specs.declared.member.Phase.{Phase}
-use Rattle.line_members.specs.declared.member.Phase.TheVariants.{Out, Waits, Open, Done, Unreached}
+use Rattle.line_owner.specs.declared.member.Choice.TheVariants.{Waiting, Challenged, Settled}
+use Rattle.line_owner.specs.declared.member.Phase.{Phase}
+use Rattle.line_owner.specs.declared.member.Phase.TheVariants.{Out, Waits, Open, Done, Unreached}
 use Rattle.line_owner.specs.declared.owner.Change.{Change}
-use Rattle.line_members.specs.declared.acts.Act.TheVariants.{Step, Put, Do, Say}
-use Rattle.line_members.specs.declared.acts.Acts.{Acts}
-use Rattle.line_members.specs.declared.acts.Acts.TheVariants.{One, Two, Three, Four}
-use Rattle.line_members.specs.declared.acts.Command.TheVariants.{Rekey, Activate, Challenge as ChallengeNow, Order as OrderNow}
-use Rattle.line_members.specs.declared.acts.Saying.TheVariants.{KeyDrawn, Unreached as NotReached}
-use Rattle.line_members.specs.declared.acts.Task.TheVariants.{Give, OpenChallenges, NextChallenge, Challenge, Order, EndChange}
-use Rattle.line_members.specs.Members.{more, member_at, nth_of, all_wait}
+use Rattle.line_owner.specs.declared.acts.Act.TheVariants.{Step, Put, Do, Say}
+use Rattle.line_owner.specs.declared.acts.Acts.{Acts}
+use Rattle.line_owner.specs.declared.acts.Acts.TheVariants.{One, Two, Three, Four}
+use Rattle.line_owner.specs.declared.acts.Command.TheVariants.{Rekey, Activate, Challenge as ChallengeNow, Order as OrderNow}
+use Rattle.line_owner.specs.declared.acts.Saying.TheVariants.{KeyDrawn, Unreached as NotReached}
+use Rattle.line_owner.specs.declared.acts.Task.TheVariants.{Give, OpenChallenges, NextChallenge, Challenge, Order, EndChange}
+use Rattle.line_owner.specs.Members.{more, member_at, nth_of, all_wait}
 use Rattle.line_owner.specs.States.{OwnerState, Turned, does, rests, timed, keyed, with_node}
-use Rattle.line_members.specs.Times.{micros, later}
+use Rattle.line_owner.specs.Times.{micros, later}
 
 -- a key is drawn for an index
 unfoldable pub begins_change : ℕ → OwnerState → Turned

@@ -2,15 +2,15 @@
 use Rattle.std.specs.Prelude.{ℕ, ◌+◌, leb, ◌||◌, cond, true, false, List, Option, None, Some}
 use Rattle.air_draws.specs.Draws.{below}
 use Rattle.line_place.specs.declared.link.Link.{Link}
-use Rattle.line_members.specs.declared.agents.Agent.{Agent}
-use Rattle.line_members.specs.declared.acts.Act.TheVariants.{Step, Put, Do}
-use Rattle.line_members.specs.declared.acts.Acts.TheVariants.{One, Four}
-use Rattle.line_members.specs.declared.acts.Command.TheVariants.{Join}
-use Rattle.line_members.specs.declared.acts.Task.TheVariants.{TryJoin, Give}
-use Rattle.line_members.specs.Members.{more, member_at}
-use Rattle.line_members.specs.Agents.{agent_of_turn}
+use Rattle.line_owner.specs.declared.agents.Agent.{Agent}
+use Rattle.line_owner.specs.declared.acts.Act.TheVariants.{Step, Put, Do}
+use Rattle.line_owner.specs.declared.acts.Acts.TheVariants.{One, Four}
+use Rattle.line_owner.specs.declared.acts.Command.TheVariants.{Join}
+use Rattle.line_owner.specs.declared.acts.Task.TheVariants.{TryJoin, Give}
+use Rattle.line_owner.specs.Members.{more, member_at}
+use Rattle.line_owner.specs.Agents.{agent_of_turn}
 use Rattle.line_owner.specs.States.{OwnerState, Turned, does, rests, timed, with_node}
-use Rattle.line_members.specs.Times.{micros, later}
+use Rattle.line_owner.specs.Times.{micros, later}
 
 -- with an agent the meter asks, and tries again after a while; without one it looks again after half a minute
 abbrev pub joins_by : ℕ → ℕ → Option Agent → OwnerState → Turned

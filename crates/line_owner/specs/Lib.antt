@@ -5,3 +5,8 @@ pub mod Reads
 pub mod Changes
 pub mod Turns
 pub mod Sends
+pub mod Times
+pub mod Members
+pub mod Asked
+pub mod Messages
+pub mod Agents

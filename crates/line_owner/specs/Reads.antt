@@ -2,19 +2,19 @@
 use Rattle.std.specs.Prelude.{ℕ, ◌+◌, ◌-◌, min, eqb, ltb, leb, not, ◌&&◌, ◌||◌, cond, Bool, true, false, length, map}
 use Rattle.air_draws.specs.Draws.{below}
 use Rattle.plan_tables.specs.declared.tables.Way.TheVariants.{Push, Poll as PollWay}
-use Rattle.line_members.specs.declared.asked.Reading.{Reading}
-use Rattle.line_members.specs.declared.acts.Act.TheVariants.{Step, Put, Do, Say}
-use Rattle.line_members.specs.declared.acts.Acts.TheVariants.{One, Two}
-use Rattle.line_members.specs.declared.acts.Command.TheVariants.{Tell, Leave, Seek}
-use Rattle.line_members.specs.declared.messages.Kind.{Kind}
-use Rattle.line_members.specs.declared.messages.Kind.TheVariants as kinds
-use Rattle.line_members.specs.declared.messages.Message.{Message}
-use Rattle.line_members.specs.declared.acts.Saying.TheVariants.{Leaves}
-use Rattle.line_members.specs.declared.acts.Task.TheVariants.{Read, ReadLater, OpenPolls, NextPoll, Poll, Answer, Reply}
-use Rattle.line_members.specs.Members.{more, member_at, unpolled}
-use Rattle.line_members.specs.Asked.{reading_at}
+use Rattle.line_owner.specs.declared.asked.Reading.{Reading}
+use Rattle.line_owner.specs.declared.acts.Act.TheVariants.{Step, Put, Do, Say}
+use Rattle.line_owner.specs.declared.acts.Acts.TheVariants.{One, Two}
+use Rattle.line_owner.specs.declared.acts.Command.TheVariants.{Tell, Leave, Seek}
+use Rattle.line_owner.specs.declared.messages.Kind.{Kind}
+use Rattle.line_owner.specs.declared.messages.Kind.TheVariants as kinds
+use Rattle.line_owner.specs.declared.messages.Message.{Message}
+use Rattle.line_owner.specs.declared.acts.Saying.TheVariants.{Leaves}
+use Rattle.line_owner.specs.declared.acts.Task.TheVariants.{Read, ReadLater, OpenPolls, NextPoll, Poll, Answer, Reply}
+use Rattle.line_owner.specs.Members.{more, member_at, unpolled}
+use Rattle.line_owner.specs.Asked.{reading_at}
 use Rattle.line_owner.specs.States.{OwnerState, Turned, does, rests, timed, with_node, with_asked}
-use Rattle.line_members.specs.Times.{micros, later}
+use Rattle.line_owner.specs.Times.{micros, later}
 
 abbrev pub message : Kind → ℕ → ℕ → Message
 message kind node round = record { kind = kind; node = node; round = round }

@@ -2,16 +2,16 @@
 -- meter that has joined, the receipt with power.
 use Rattle.std.specs.Prelude.{◌≡◌, ℕ, true, List}
 use Rattle.line_place.specs.declared.link.Link.{Link}
-use Rattle.line_members.specs.declared.acts.Act.{Act}
-use Rattle.line_members.specs.declared.acts.Act.TheVariants.{Step, Put, Do, Say, Dark}
-use Rattle.line_members.specs.declared.acts.Acts.{Acts}
-use Rattle.line_members.specs.declared.acts.Acts.TheVariants.{Nothing, One, Two, Three, Four}
-use Rattle.line_members.specs.declared.acts.Command.{Command}
-use Rattle.line_members.specs.declared.acts.Command.TheVariants as commands
-use Rattle.line_members.specs.declared.acts.Task.{Task}
-use Rattle.line_members.specs.declared.messages.Kind.{Kind}
-use Rattle.line_members.specs.declared.messages.Kind.TheVariants.{Reading, Reply, Ask, Receipt}
-use Rattle.line_members.specs.Members.{member_at}
+use Rattle.line_owner.specs.declared.acts.Act.{Act}
+use Rattle.line_owner.specs.declared.acts.Act.TheVariants.{Step, Put, Do, Say, Dark}
+use Rattle.line_owner.specs.declared.acts.Acts.{Acts}
+use Rattle.line_owner.specs.declared.acts.Acts.TheVariants.{Nothing, One, Two, Three, Four}
+use Rattle.line_owner.specs.declared.acts.Command.{Command}
+use Rattle.line_owner.specs.declared.acts.Command.TheVariants as commands
+use Rattle.line_owner.specs.declared.acts.Task.{Task}
+use Rattle.line_owner.specs.declared.messages.Kind.{Kind}
+use Rattle.line_owner.specs.declared.messages.Kind.TheVariants.{Reading, Reply, Ask, Receipt}
+use Rattle.line_owner.specs.Members.{member_at}
 use Rattle.line_owner.specs.States.{OwnerState}
 use Rattle.line_owner.specs.Turns.{turn}
 

@@ -4,14 +4,14 @@ use Rattle.air_draws.specs.Draws.{below, key_octets}
 use Rattle.plan_tables.specs.declared.tables.Way.{Way}
 use Rattle.plan_tables.specs.declared.tables.Way.TheVariants.{Push, Poll as PollWay}
 use Rattle.line_owner.specs.declared.settings.Settings.{Settings}
-use Rattle.line_members.specs.declared.acts.Act.TheVariants.{Step, Put, Do}
-use Rattle.line_members.specs.declared.acts.Acts.{Acts}
-use Rattle.line_members.specs.declared.acts.Acts.TheVariants.{One, Two, Three}
-use Rattle.line_members.specs.declared.acts.Command.TheVariants.{Coordinator, Meter, Depot, Allow}
-use Rattle.line_members.specs.declared.acts.Task.TheVariants.{Make, Enter, DrawJoins, PutRounds, DrawReads, TryJoin, Read, Refresh, BeginPolls}
-use Rattle.line_members.specs.Members.{more}
+use Rattle.line_owner.specs.declared.acts.Act.TheVariants.{Step, Put, Do}
+use Rattle.line_owner.specs.declared.acts.Acts.{Acts}
+use Rattle.line_owner.specs.declared.acts.Acts.TheVariants.{One, Two, Three}
+use Rattle.line_owner.specs.declared.acts.Command.TheVariants.{Coordinator, Meter, Depot, Allow}
+use Rattle.line_owner.specs.declared.acts.Task.TheVariants.{Make, Enter, DrawJoins, PutRounds, DrawReads, TryJoin, Read, Refresh, BeginPolls}
+use Rattle.line_owner.specs.Members.{more}
 use Rattle.line_owner.specs.States.{OwnerState, Turned, does, rests, timed, keyed}
-use Rattle.line_members.specs.Times.{micros, later}
+use Rattle.line_owner.specs.Times.{micros, later}
 
 -- the first node is the coordinator, all others are meters; where a line is refreshed, a spare meter comes last that is on no line
 unfoldable pub makes : ℕ → OwnerState → Turned

@@ -2,19 +2,19 @@
 use Rattle.std.specs.Prelude.{ℕ, ◌-◌, ltb, eqb, cond, true, false, List, Option}
 use Rattle.rand_pcg.specs.Lcg.{Lcg}
 use Rattle.air_draws.specs.Draws.{after, after_key, key_octets}
-use Rattle.line_members.specs.declared.asked.Reading.{Reading}
-use Rattle.line_members.specs.declared.member.Member.{Member}
+use Rattle.line_owner.specs.declared.asked.Reading.{Reading}
+use Rattle.line_owner.specs.declared.member.Member.{Member}
 use Rattle.line_owner.specs.declared.owner.Polls.{Polls}
 use Rattle.line_owner.specs.declared.owner.Change.{Change}
 use Rattle.line_owner.specs.declared.settings.Settings.{Settings}
-use Rattle.line_members.specs.declared.acts.Act.TheVariants.{Step, Put, Dark}
-use Rattle.line_members.specs.declared.acts.Acts.{Acts}
-use Rattle.line_members.specs.declared.acts.Acts.TheVariants.{Nothing, One, Two}
-use Rattle.line_members.specs.declared.acts.Command.TheVariants.{RandomOctets, Restart}
-use Rattle.line_members.specs.declared.acts.Task.TheVariants.{Restore, TryJoin}
-use Rattle.line_members.specs.Members.{member_at, with_member}
-use Rattle.line_members.specs.Asked.{with_reading}
-use Rattle.line_members.specs.Times.{micros, later}
+use Rattle.line_owner.specs.declared.acts.Act.TheVariants.{Step, Put, Dark}
+use Rattle.line_owner.specs.declared.acts.Acts.{Acts}
+use Rattle.line_owner.specs.declared.acts.Acts.TheVariants.{Nothing, One, Two}
+use Rattle.line_owner.specs.declared.acts.Command.TheVariants.{RandomOctets, Restart}
+use Rattle.line_owner.specs.declared.acts.Task.TheVariants.{Restore, TryJoin}
+use Rattle.line_owner.specs.Members.{member_at, with_member}
+use Rattle.line_owner.specs.Asked.{with_reading}
+use Rattle.line_owner.specs.Times.{micros, later}
 
 pub record OwnerState : Type 0 where
   pub settings : Settings

@@ -1,22 +1,22 @@
 -- What the owner does at each task, after each command, and at what it notices.
 use Rattle.std.specs.Prelude.{ℕ, true, false, List}
 use Rattle.line_place.specs.declared.link.Link.{Link}
-use Rattle.line_members.specs.declared.acts.Act.TheVariants.{Do, Say}
-use Rattle.line_members.specs.declared.acts.Acts.{Acts}
-use Rattle.line_members.specs.declared.acts.Acts.TheVariants.{Nothing, One, Two}
-use Rattle.line_members.specs.declared.acts.Command.{Command}
-use Rattle.line_members.specs.declared.acts.Command.TheVariants as commands
-use Rattle.line_members.specs.declared.messages.Kind.{Kind}
-use Rattle.line_members.specs.declared.messages.Kind.TheVariants.{Reading, Reply, Ask, Receipt}
-use Rattle.line_members.specs.declared.messages.Message.{Message}
-use Rattle.line_members.specs.declared.acts.Notice.{Notice}
-use Rattle.line_members.specs.declared.acts.Notice.TheVariants as notices
-use Rattle.line_members.specs.declared.acts.Outcome.{Outcome}
-use Rattle.line_members.specs.declared.acts.Outcome.TheVariants.{Taken, Refused, StoreFailed}
-use Rattle.line_members.specs.declared.acts.Saying.TheVariants as sayings
-use Rattle.line_members.specs.declared.acts.Task.{Task}
-use Rattle.line_members.specs.declared.acts.Task.TheVariants as tasks
-use Rattle.line_members.specs.Members.{more, member_at}
+use Rattle.line_owner.specs.declared.acts.Act.TheVariants.{Do, Say}
+use Rattle.line_owner.specs.declared.acts.Acts.{Acts}
+use Rattle.line_owner.specs.declared.acts.Acts.TheVariants.{Nothing, One, Two}
+use Rattle.line_owner.specs.declared.acts.Command.{Command}
+use Rattle.line_owner.specs.declared.acts.Command.TheVariants as commands
+use Rattle.line_owner.specs.declared.messages.Kind.{Kind}
+use Rattle.line_owner.specs.declared.messages.Kind.TheVariants.{Reading, Reply, Ask, Receipt}
+use Rattle.line_owner.specs.declared.messages.Message.{Message}
+use Rattle.line_owner.specs.declared.acts.Notice.{Notice}
+use Rattle.line_owner.specs.declared.acts.Notice.TheVariants as notices
+use Rattle.line_owner.specs.declared.acts.Outcome.{Outcome}
+use Rattle.line_owner.specs.declared.acts.Outcome.TheVariants.{Taken, Refused, StoreFailed}
+use Rattle.line_owner.specs.declared.acts.Saying.TheVariants as sayings
+use Rattle.line_owner.specs.declared.acts.Task.{Task}
+use Rattle.line_owner.specs.declared.acts.Task.TheVariants as tasks
+use Rattle.line_owner.specs.Members.{more, member_at}
 use Rattle.line_owner.specs.States.{OwnerState, Turned, does, rests, with_node, gives, spends, fails, fails_at_write, restores, off_after_write}
 use Rattle.line_owner.specs.Setups.{makes, enters, draws_join, puts_round, draws_read}
 use Rattle.line_owner.specs.Joins.{tries_to_join, takes_grant, has_left}

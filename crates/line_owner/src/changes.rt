@@ -6,7 +6,7 @@ ghost use Rattle.line_owner.specs.Changes.{is_open_in, is_open, challenge_acts, 
 ghost use Rattle.line_owner.specs.Changes.{ends_change};
 
 use crate::owner::{Change, Owner};
-use line_members::{Act, Acts, Choice, Command, Phase, Saying, Task, later, micros, more};
+use crate::{Act, Acts, Choice, Command, Phase, Saying, Task, later, micros, more};
 use plan_tables::Order;
 
 fn change_acts(order: Order, index: u8, count: u64) -> Acts

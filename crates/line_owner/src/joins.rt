@@ -1,10 +1,10 @@
 //! How meters join, and leave.
 ghost use Rattle.std.specs.Prelude.{◌≡◌, ◌<◌};
-ghost use Rattle.line_members.specs.Members.{member_at};
+ghost use Rattle.line_owner.specs.Members.{member_at};
 ghost use Rattle.line_owner.specs.Joins.{joins_by, joins_with_power, tries_to_join, takes_grant, has_left};
 
 use crate::owner::{Owner, next_try};
-use line_members::{Act, Acts, Agent, Command, Task, agent_of_turn, later, micros, more};
+use crate::{Act, Acts, Agent, Command, Task, agent_of_turn, later, micros, more};
 use line_place::Place;
 
 impl Owner {

@@ -14,17 +14,45 @@
 //! - Readings are sent by meters that have joined and have power, what was asked for by meters with power, and questions and receipts go to meters that have
 //!   joined (`only_members_send`).
 //! - Where memory runs out, nothing is said of the owner but that it is safe to drop.
+//!
+//! What the owner of a simulated line knows of it, and the words for what it does: plain values, on which `line_owner` turns.
+//!
+//! - [`Members`] are the nodes as the owner knows them, [`Asked`] the readings that were tried. Both answer for a node or a reading that they do not have.
+//! - [`agent_of_turn`] picks the agent by which a meter joins, of its joined neighbours with power, in the order of hops and cost.
+//! - [`Message`] is a datagram between the coordinator and a meter, which is written to octets and read from them.
+//! - A [`Task`] is what the owner does at a time, a [`Command`] an event that it asks for, a [`Notice`] what it sees of frames. [`Acts`] are what it brings.
+//! - [`micros`] and [`later`] are times in microseconds, which stop at 2^64 - 1.
+//!
+//! What its calls promise:
+//!
+//! - Each equals its definition: `specs/Members.antt`, `specs/Asked.antt`, `specs/Agents.antt`, `specs/Messages.antt`, `specs/Times.antt`.
+//! - The agent that is picked has joined and has power, and it and the meter hear each other (`within_reach`). Agents come in the order of
+//!   their weights, and then of their numbers (`agents_come_in_order`).
+//! - A message is read as it was written (`written_messages_are_read`), as long as meter and round fit into two octets each.
+//! - Where memory runs out, the readings stay as they were; nothing is said of the octets of a message.
 #![tactic(auto)]
 
+mod acts;
+mod agents;
+mod asked;
 mod changes;
 mod joins;
 mod laws;
+mod member;
+mod messages;
 mod owner;
 mod reads;
 mod settings;
 mod setup;
+mod times;
 mod turns;
 
+pub use acts::{Act, Acts, Command, Notice, Outcome, Saying, Task};
+pub use agents::{Agent, agent_of_turn, agents_come_in_order};
+pub use asked::{Asked, Reading};
 pub use laws::only_members_send;
+pub use member::{Choice, Member, Members, Phase, more};
+pub use messages::{Kind, Message, written_messages_are_read};
 pub use owner::{Change, Owner, Polls};
 pub use settings::Settings;
+pub use times::{later, micros};

@@ -1,14 +1,14 @@
 //! The owner of a line, between its turns.
 ghost use Rattle.std.specs.Prelude.{◌≡◌, ◌<◌, ◌+◌, IfOk, map, None, [], OnOk};
 ghost use Rattle.air_draws.specs.Draws.{below, after, key_octets, first};
-ghost use Rattle.line_members.specs.Members.{member_at, new_member};
-ghost use Rattle.line_members.specs.Asked.{reading_at};
+ghost use Rattle.line_owner.specs.Members.{member_at, new_member};
+ghost use Rattle.line_owner.specs.Asked.{reading_at};
 ghost use Rattle.line_owner.specs.States.{with_node, with_asked, gives, spends, fails, fails_at_write, off_after_write, restores, timed, keyed};
 ghost use Rattle.air_draws.specs.declared.draws.Purpose.TheVariants.{Times, Keys};
 
 use crate::settings::Settings;
 use air_draws::{Draws, Purpose};
-use line_members::{Act, Acts, Asked, Command, Member, Members, Reading, Task, later, micros};
+use crate::{Act, Acts, Asked, Command, Member, Members, Reading, Task, later, micros};
 use std::alloc::{AllocError, Global};
 use std::marker::Model;
 

@@ -1,11 +1,11 @@
 //! How meters are read.
 ghost use Rattle.std.specs.Prelude.{◌≡◌, ◌<◌, IfOk, OnOk};
-ghost use Rattle.line_members.specs.Asked.{reading_at};
+ghost use Rattle.line_owner.specs.Asked.{reading_at};
 ghost use Rattle.line_owner.specs.Reads.{message, tried, noted, is_spent, leaves_after, misses, gives_reading_up, may_speak, reads, reads_later, begins_polls};
 ghost use Rattle.line_owner.specs.Reads.{opens_polls, polls_next, ends_poll, polls, answers, replies, refreshes, reading_came, receipt_came, comes};
 
 use crate::owner::{Owner, Polls, next_try};
-use line_members::{Act, Acts, Command, Kind, Message, Saying, Task, later, micros, more};
+use crate::{Act, Acts, Command, Kind, Message, Saying, Task, later, micros, more};
 use plan_tables::Way;
 use std::alloc::AllocError;
 

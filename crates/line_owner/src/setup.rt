@@ -4,7 +4,7 @@ ghost use Rattle.line_owner.specs.Setups.{makes, enters, draws_join, span, round
 
 use crate::owner::Owner;
 use crate::settings::Settings;
-use line_members::{Act, Acts, Command, Task, later, micros, more};
+use crate::{Act, Acts, Command, Task, later, micros, more};
 use plan_tables::Way;
 
 // A moment is drawn within this many seconds, in milliseconds.

@@ -4,7 +4,7 @@ ghost use Rattle.line_owner.specs.Turns.{turn, joins_line, books, receives, take
 ghost use Rattle.line_owner.specs.Turns.{told_to_leave, will_tear, noticed};
 
 use crate::owner::Owner;
-use line_members::{Act, Acts, Command, Kind, Message, Notice, Outcome, Saying, Task, more};
+use crate::{Act, Acts, Command, Kind, Message, Notice, Outcome, Saying, Task, more};
 use line_place::Place;
 use std::alloc::AllocError;
 

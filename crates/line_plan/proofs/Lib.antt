@@ -1,1 +1,3 @@
 pub mod MemberNames
+pub mod Members
+pub mod Lines

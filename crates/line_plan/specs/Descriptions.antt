@@ -2,19 +2,19 @@
 use Rattle.std.specs.Prelude.{◌≡◌, ◌⊎◌, ℕ, ◌≤◌, List, length, take, None, Some, Result, Ok, Err, string_bytes}
 use Rattle.toml.specs.Data.{Members}
 use Rattle.toml.specs.Parse.{parse_document}
-use Rattle.plan_fields.specs.declared.fault.Section.TheVariants as sections
-use Rattle.plan_fields.specs.declared.fault.PlanFault.{PlanFault}
-use Rattle.plan_fields.specs.declared.fault.PlanFault.TheVariants.{At, Memory}
-use Rattle.plan_fields.specs.declared.fault.Cause.{Cause}
-use Rattle.plan_fields.specs.declared.fault.Cause.TheVariants.{Syntax, Unknown, Wrong}
-use Rattle.plan_fields.specs.declared.fault.TextPlace.{TextPlace}
-use Rattle.plan_fields.specs.declared.fault.UnknownKey.{UnknownKey}
+use Rattle.plan_tables.specs.declared.fault.Section.TheVariants as sections
+use Rattle.plan_tables.specs.declared.fault.PlanFault.{PlanFault}
+use Rattle.plan_tables.specs.declared.fault.PlanFault.TheVariants.{At, Memory}
+use Rattle.plan_tables.specs.declared.fault.Cause.{Cause}
+use Rattle.plan_tables.specs.declared.fault.Cause.TheVariants.{Syntax, Unknown, Wrong}
+use Rattle.plan_tables.specs.declared.fault.TextPlace.{TextPlace}
+use Rattle.plan_tables.specs.declared.fault.UnknownKey.{UnknownKey}
 use Rattle.line_plan.specs.declared.plan.Plan.{Plan}
-use Rattle.plan_fields.specs.Keys.{key_word, keys_of}
-use Rattle.plan_fields.specs.Faults.{TableAt}
+use Rattle.plan_tables.specs.Keys.{key_word, keys_of}
+use Rattle.plan_tables.specs.Faults.{TableAt}
 use Rattle.line_plan.specs.Plans.{plan_at}
 use Rattle.line_plan.specs.Unknowns.{UnknownAt, unknown_in, nearest_of}
-use Rattle.plan_fields.specs.TextPlaces.{text_start, place_of, octet_place}
+use Rattle.plan_tables.specs.TextPlaces.{text_start, place_of, octet_place}
 
 abbrev pub top_of : Members → TableAt
 top_of members = record { section = sections.Top; members = members }

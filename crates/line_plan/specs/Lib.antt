@@ -1,3 +1,5 @@
 pub mod Plans
 pub mod Unknowns
 pub mod Descriptions
+pub mod Options
+pub mod OptionDescriptions

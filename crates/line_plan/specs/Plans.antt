@@ -5,10 +5,10 @@ use Rattle.std.specs.List.{list_any}
 use Rattle.std.specs.Str.{chars}
 use Rattle.std.specs.Option.{option_and_then}
 use Rattle.toml.specs.Data.{Data, Members, as_str, as_array, as_table}
-use Rattle.plan_fields.specs.declared.keys.Key.TheVariants as keys
-use Rattle.plan_fields.specs.declared.fault.Section.TheVariants as sections
-use Rattle.plan_fields.specs.declared.fault.Wanted.TheVariants as wanted
-use Rattle.plan_fields.specs.declared.fault.WrongValue.{WrongValue}
+use Rattle.plan_tables.specs.declared.keys.Key.TheVariants as keys
+use Rattle.plan_tables.specs.declared.fault.Section.TheVariants as sections
+use Rattle.plan_tables.specs.declared.fault.Wanted.TheVariants as wanted
+use Rattle.plan_tables.specs.declared.fault.WrongValue.{WrongValue}
 use Rattle.plan_tables.specs.declared.air_plan.AirPlan.{AirPlan}
 use Rattle.plan_tables.specs.declared.tables.Joining.{Joining}
 use Rattle.plan_tables.specs.declared.tables.Readings.{Readings}
@@ -19,7 +19,7 @@ use Rattle.plan_tables.specs.declared.incidents.Incident.{Incident}
 use Rattle.line_plan.specs.declared.plan.OwnerPlan.{OwnerPlan}
 use Rattle.line_plan.specs.declared.plan.Head.{Head}
 use Rattle.line_plan.specs.declared.plan.Plan.{Plan}
-use Rattle.plan_fields.specs.Faults.{TableAt, ◌>>=◌, get_at, value_at, number_at, seconds_at, inner_at}
+use Rattle.plan_tables.specs.Faults.{TableAt, ◌>>=◌, get_at, value_at, number_at, seconds_at, inner_at}
 use Rattle.plan_tables.specs.Tables.{joining_at, readings_at, rotation_at, care_at}
 use Rattle.plan_tables.specs.AirPlans.{air_at}
 use Rattle.plan_tables.specs.Places.{place_at, meters_of}

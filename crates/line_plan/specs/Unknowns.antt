@@ -5,20 +5,20 @@ use Rattle.std.specs.Str.{bytes_eq, chars}
 use Rattle.std.specs.Option.{option_and_then}
 use Rattle.strsim.specs.Edits.{levenshtein_row}
 use Rattle.toml.specs.Data.{Data, Members, no_members, member, as_table, as_array}
-use Rattle.plan_fields.specs.declared.keys.Key.{Key}
-use Rattle.plan_fields.specs.declared.keys.Key.TheVariants as keys
-use Rattle.plan_fields.specs.declared.keys.KeySet.{KeySet}
-use Rattle.plan_fields.specs.declared.keys.KeySet.TheVariants as sets
-use Rattle.plan_fields.specs.declared.fault.Section.{Section}
-use Rattle.plan_fields.specs.declared.fault.Section.TheVariants as sections
-use Rattle.plan_fields.specs.declared.fault.WrongValue.{WrongValue}
+use Rattle.plan_tables.specs.declared.keys.Key.{Key}
+use Rattle.plan_tables.specs.declared.keys.Key.TheVariants as keys
+use Rattle.plan_tables.specs.declared.keys.KeySet.{KeySet}
+use Rattle.plan_tables.specs.declared.keys.KeySet.TheVariants as sets
+use Rattle.plan_tables.specs.declared.fault.Section.{Section}
+use Rattle.plan_tables.specs.declared.fault.Section.TheVariants as sections
+use Rattle.plan_tables.specs.declared.fault.WrongValue.{WrongValue}
 use Rattle.plan_tables.specs.declared.places.PlaceKind.{PlaceKind}
 use Rattle.plan_tables.specs.declared.places.PlaceKind.TheVariants as places
 use Rattle.plan_tables.specs.declared.incidents.WhatKind.{WhatKind}
 use Rattle.plan_tables.specs.declared.incidents.WhatKind.TheVariants as incidents
 use Rattle.line_plan.specs.declared.unknown.Unknown.{Unknown}
-use Rattle.plan_fields.specs.Keys.{key_word, keys_of}
-use Rattle.plan_fields.specs.Faults.{get_at}
+use Rattle.plan_tables.specs.Keys.{key_word, keys_of}
+use Rattle.plan_tables.specs.Faults.{get_at}
 use Rattle.plan_tables.specs.Places.{kind_at}
 use Rattle.plan_tables.specs.Incidents.{what_at}
 use Rattle.plan_tables.specs.Links.{listed}

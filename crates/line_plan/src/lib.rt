@@ -9,10 +9,21 @@
 //!
 //! Times are whole seconds in a plan, chances ten-thousandths. `plan_fields` has the values of keys and the faults, `plan_tables` the tables.
 //! `docs/LINE-DESCRIPTION.md` has the language.
+//!
+//! The description of a line as a program reads it: from a source, with options that change it.
+//!
+//! [`read_plan`] reads a text, and gives its plan with the values that options such as `--set place.loss=5` and `--seed 7` give. What is wrong is one line of
+//! text ([`NoPlan`]): with its place in the text where the text is wrong by itself, else without one.
 #![tactic(auto)]
 
+mod input;
+mod option_reading;
+mod options;
 mod plan;
 mod reading;
 mod unknown;
 
+pub use input::{InputFault, MAX_DESCRIPTION, read_text};
+pub use option_reading::{NoPlan, read_plan};
+pub use options::{OptionFault, are_options, with_options};
 pub use plan::{IncidentList, OwnerPlan, Plan, PlanTitle};

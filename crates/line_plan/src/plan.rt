@@ -3,13 +3,13 @@ ghost use Rattle.std.specs.Prelude.{◌≡◌, IfOk, [], map};
 ghost use Rattle.std.specs.List.{list_any};
 ghost use Rattle.std.specs.Str.{chars};
 ghost use Rattle.toml.specs.View.{view};
-ghost use Rattle.plan_fields.specs.Members.{table_of};
+ghost use Rattle.plan_tables.specs.Members.{table_of};
 ghost use Rattle.plan_tables.specs.Places.{meters_of};
 ghost use Rattle.line_plan.specs.Plans.{air_of, joining_of, readings_of, rotation_of, care_of, owner_at};
 ghost use Rattle.line_plan.specs.Plans.{head_at, is_control, is_line, title_in, title_at, place_of};
 ghost use Rattle.line_plan.specs.Plans.{not_tables, incident_in, incidents_from, incidents_in, incidents_at, plan_at};
 
-use plan_fields::{Fields, Key, Section, Wanted, WrongValue};
+use plan_tables::{Fields, Key, Section, Wanted, WrongValue};
 use plan_tables::{AirPlan, Care, Incident, Joining, PlacePlan, Readings, Rotation};
 use std::alloc::{AllocError, Global};
 use std::marker::Model;

@@ -8,7 +8,7 @@ ghost use Rattle.line_plan.specs.Unknowns.{unknown_view};
 
 use crate::plan::{Plan, plan_at};
 use crate::unknown::{Unknown, nearest_of, unknown_in};
-use plan_fields::{
+use plan_tables::{
     Cause, Fields, PlanFault, Section, TextPlace, UnknownKey, octet_place, place_of,
 };
 use std::alloc::{AllocError, Global};

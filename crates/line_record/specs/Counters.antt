@@ -5,7 +5,7 @@ use Rattle.std.specs.Ordering.{nat_cmp, ordering_then}
 use Rattle.std.specs.Option.{unwrap_or}
 use Rattle.std.specs.BTreeMap.{insert_entry, is_at}
 use Rattle.std.specs.Map.{lookup}
-use Rattle.frame_details.specs.declared.detail.FlightMore.{FlightMore}
+use Rattle.frame_facts.specs.declared.detail.FlightMore.{FlightMore}
 
 abbrev pub seal_cmp : ℕ × ℕ → ℕ × ℕ → Ordering
 seal_cmp x y = ordering_then (nat_cmp x.0 y.0) (nat_cmp x.1 y.1)

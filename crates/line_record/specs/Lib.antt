@@ -6,3 +6,7 @@ pub mod Lists
 pub mod Marks
 pub mod RunRecords
 pub mod Verdicts
+pub mod NodeItems
+pub mod Stories
+pub mod Laws
+pub mod Pasts

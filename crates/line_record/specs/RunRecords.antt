@@ -1,11 +1,11 @@
 -- The record of a run: each event with the line that asked for it and how it ended, and each flight with whom it is for and what it is about.
 use Rattle.std.specs.Prelude.{ℕ, ◌-◌, ◌==◌, List, take, drop, slice_get, Option, None, Some, if◌then◌else◌}
-use Rattle.frame_words.specs.declared.gist.Gist.{Gist}
-use Rattle.frame_words.specs.declared.gist.Gist.TheVariants as gists
-use Rattle.frame_words.specs.declared.kind.PayloadKind.{PayloadKind}
-use Rattle.frame_words.specs.declared.kind.PayloadKind.TheVariants as kinds
-use Rattle.frame_words.specs.Kinds.{payload_kind}
-use Rattle.frame_words.specs.Gists.{frame_target, payload_gist}
+use Rattle.frame_facts.specs.declared.gist.Gist.{Gist}
+use Rattle.frame_facts.specs.declared.gist.Gist.TheVariants as gists
+use Rattle.frame_facts.specs.declared.kind.PayloadKind.{PayloadKind}
+use Rattle.frame_facts.specs.declared.kind.PayloadKind.TheVariants as kinds
+use Rattle.frame_facts.specs.Kinds.{payload_kind}
+use Rattle.frame_facts.specs.Gists.{frame_target, payload_gist}
 use Rattle.line_events.specs.declared.event.Event.{Event}
 use Rattle.line_events.specs.declared.happenings.Admission.{Admission}
 use Rattle.line_events.specs.declared.happenings.Handed.{Handed}

@@ -2,7 +2,7 @@
 ghost use Rattle.std.specs.Prelude.{◌≡◌, [], OnOk};
 ghost use Rattle.line_record.specs.Counters.{counters_with, flight_with};
 
-use frame_details::FlightMore;
+use frame_facts::FlightMore;
 use std::alloc::{AllocError, Global};
 use std::collections::BTreeMap;
 use std::marker::Model;

@@ -17,16 +17,54 @@
 //!
 //! `specs/Acts.antt` says what is kept of an event, `specs/RunRecords.antt` what a record is, `specs/Kinds.antt` what events and answers are to a story,
 //! `specs/Marks.antt` what becomes of a story and a flight at an event, and `specs/Verdicts.antt` what became of each story.
+//!
+//! What became of each thing that somebody asked of a line: its story.
+//!
+//! A story is a datagram on its way, a joining, a renewal of keys, an order, octets that no node sent, a broadcast, a path request, the setup,
+//! or what happens on the line by itself. Each event and each flight has one that owns it. While the stories are found, what became of each
+//! flight at the node that it is for is found too: it went on, or was refused, lost or missed.
+//!
+//! ```text
+//! let run_stories = stories_of(alloc, &run_record)?;
+//! let ends = ends_of(alloc, run_stories.stories.len(), &run_stories.courses)?;
+//! for (story, ends) in run_stories.stories.iter().zip(&ends) {
+//!     match verdict_of(story, ends, run_record.event(story.first)?) {
+//!         Verdict::Reached { event } => .. // it came, or is done, at this event
+//!         ..
+//!     }
+//! }
+//! ```
+//!
+//! What an event says of a story, and the verdict of a story, stand in `line_record`. `specs/Stories.antt` says which story owns which event and
+//! which flight.
+//!
+//! What nodes were over a run: whether they were joined, with which key they sealed, and when that changed; and which way their frames to the
+//! coordinator went at its end.
+//!
+//! ```text
+//! pasts.push_node()?;
+//! pasts.look(0, 5, &shown)?;
+//! for change in pasts.changes(0) { .. }
+//! ```
+//!
+//! `specs/Pasts.antt` says what a node is by what it shows, which way it shows to the coordinator, and what is kept of that.
 #![tactic(auto)]
 
 mod act;
 mod counters;
 mod course;
 mod ends;
+mod keeping;
 mod kept;
 mod kind;
+pub mod laws;
+mod mode;
+mod past;
+mod place;
+mod readiness;
 mod recorded;
 mod run_record;
+mod run_stories;
 mod story;
 mod verdict;
 
@@ -42,7 +80,10 @@ pub use kind::{
     is_setup, is_setup_kind, joins, keeps_joinings, makes_node, person_of, prepares, sends,
     takes_counter,
 };
+pub use mode::{Mode, is_same, mode_of};
+pub use past::{Change, Pasts};
 pub use recorded::{RecordedEvent, RecordedFlight, made_by, recorded_event, recorded_flight};
 pub use run_record::RunRecord;
+pub use run_stories::{RunStories, push_home, stories_of};
 pub use story::{Story, came, left, marked, new_story, with_kept};
 pub use verdict::{Verdict, is_good, verdict_of};

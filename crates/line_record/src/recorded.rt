@@ -5,7 +5,7 @@ ghost use Rattle.plc_base.specs.declared.limits.TheConstants.{LONGEST_FRAME};
 ghost use Rattle.line_record.specs.RunRecords.{address_of, recorded_event, recorded_flight, gist_of, kind_of, made_by, note_of};
 
 use crate::act::{Act, act_of, flight_come};
-use frame_words::{FrameTarget, Gist, PayloadKind, frame_target, payload_gist, payload_kind};
+use frame_facts::{FrameTarget, Gist, PayloadKind, frame_target, payload_gist, payload_kind};
 use line_events::{Admission, Answer, Event, Handed, Happenings};
 
 /// An event that was taken, and how it ended.

@@ -28,10 +28,10 @@ use Rattle.line_script.proofs.Ranges.{reading_fits}
 use Rattle.line_replay.specs.Replay.{Taking, Skipped, Taken, Refused, step_taking, reading_taking, taking, Playing, entry_text, turn_by, turn_of, end_of}
 use Rattle.line_replay.specs.Replay.{BadLine, bad_by, first_bad_from, first_bad, EndsBy}
 use Rattle.line_replay.specs.Replay.{is_forged, outcome, report, entries_by, entries_from, entries, entries_text, last_by, last_from, last_text, forged_in}
-use Rattle.program_ends.specs.declared.status.Status.{Status}
-use Rattle.program_ends.specs.declared.status.Status.TheVariants as status
-use Rattle.program_ends.specs.Runs.{Ran}
-use Rattle.program_ends.specs.Statuses.{status_of}
+use Rattle.script_runs.specs.declared.status.Status.{Status}
+use Rattle.script_runs.specs.declared.status.Status.TheVariants as status
+use Rattle.script_runs.specs.Runs.{Ran}
+use Rattle.script_runs.specs.Statuses.{status_of}
 use Rattle.line_replay.specs.Tool.{Names, BreaksOffBy, is_whole}
 
 -- what a taking says of the run that goes on

@@ -7,3 +7,4 @@ mod ReportLines
 mod DriverRuns
 mod EventTurns
 pub mod Flies
+pub mod HexTexts

@@ -4,9 +4,9 @@ use Rattle.plc_base.specs.Streams.{SourceState, SinkState}
 use Rattle.line_laws.specs.Network.{IsRight}
 use Rattle.run_laws.specs.RunLaws.{IsLawful}
 use Rattle.line_replay.specs.Replay.{entries, is_forged, outcome}
-use Rattle.program_ends.specs.declared.status.Status.{Status}
-use Rattle.program_ends.specs.declared.status.Status.TheVariants as status
-use Rattle.program_ends.specs.Runs.{Ran}
+use Rattle.script_runs.specs.declared.status.Status.{Status}
+use Rattle.script_runs.specs.declared.status.Status.TheVariants as status
+use Rattle.script_runs.specs.Runs.{Ran}
 use Rattle.line_replay.specs.Tool.{Replays}
 use Rattle.line_replay.proofs.DriverRuns.{entries_run, last_is, report_by_entries, names, breaks_as}
 use Rattle.line_replay.proofs.QuietReports.{report_quieted}

@@ -4,3 +4,4 @@ pub mod Replay
 pub mod Shown
 pub mod Texts
 pub mod Tool
+pub mod VectorsText

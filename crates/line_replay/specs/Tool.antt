@@ -14,10 +14,10 @@ use Rattle.run_laws.specs.RunLaws.{IsLawful}
 use Rattle.line_script.specs.Words.{number_within}
 use Rattle.line_replay.specs.declared.tool.Command.{Command}
 use Rattle.line_replay.specs.declared.tool.Command.TheVariants.{Replay, Show, Vectors, Drill}
-use Rattle.program_ends.specs.declared.status.Status.{Status}
-use Rattle.program_ends.specs.declared.status.Status.TheVariants as status
-use Rattle.program_ends.specs.Runs.{Ran}
-use Rattle.program_ends.specs.Texts.{WritesText}
+use Rattle.script_runs.specs.declared.status.Status.{Status}
+use Rattle.script_runs.specs.declared.status.Status.TheVariants as status
+use Rattle.script_runs.specs.Runs.{Ran}
+use Rattle.script_runs.specs.Texts.{WritesText}
 use Rattle.line_replay.specs.Shown.{show_outcome}
 use Rattle.line_replay.specs.Replay.{is_forged, outcome, report, entries, entries_text, last_text, EndsBy, first_bad, forged_in, without_flights}
 

@@ -1,14 +1,13 @@
 //! Runs whole nodes on a line, from a script or as a drill. It also shows frames, and what the ciphers make.
+//!
+//! The text of the command `vectors`: what the ciphers make of known inputs, most of them those of the standards.
+//!
+//! The text has a line for each known input: a name, a space, the value that the ciphers compute in lower-case hexadecimal,
+//! and a line feed. Whoever reads it can compare it with the standards.
 #![tactic(auto)]
 
-mod drill;
-mod replay;
-mod report;
-mod show;
-mod tool;
-
 use plc_base::{StdSink, StdSource};
-use program_ends::{Status, words};
+use script_runs::{Status, words};
 use std::alloc::AllocError;
 use std::process::ExitCode;
 use tool::run_tool;
@@ -22,3 +21,12 @@ fn main(rt: HostRuntime) -> ExitCode {
     };
     ExitCode::from(status.number())
 }
+
+mod drill;
+mod replay;
+mod report;
+mod show;
+mod tool;
+mod vectors;
+
+pub use vectors::{TEXT_LENGTH, vectors_text};

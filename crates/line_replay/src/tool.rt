@@ -4,11 +4,11 @@
 ghost use Rattle.std.specs.Prelude.{◌≡◌, ℕ, ◌≤◌, Bool, true, Some, None};
 ghost use Rattle.std.specs.Io.KnownBytes.{IsAtEnd};
 ghost use Rattle.plc_base.specs.Streams.{SourceFaults, SourceRose, SinkRose};
-ghost use Rattle.program_ends.specs.Texts.{WritesText};
+ghost use Rattle.script_runs.specs.Texts.{WritesText};
 ghost use Rattle.line_replay.specs.Tool.{Replays, Shows, WritesTextOrMemory, command_of, drill_of, is_whole};
 ghost use Rattle.line_replay.specs.Drills.{drill_text};
 ghost use Rattle.line_replay.specs.Texts.{usage_text};
-ghost use Rattle.standard_vectors.specs.VectorsText.{vectors_text};
+ghost use Rattle.line_replay.specs.VectorsText.{vectors_text};
 
 use crate::drill::drill_text;
 use crate::replay::Replay;
@@ -16,10 +16,10 @@ use crate::show::Show;
 use line_laws::every_network_run_is_right;
 use line_script::number_within;
 use plc_base::{Sink, Source};
-use program_ends::{Status, status_of, write_whole};
+use script_runs::{Status, status_of, write_whole};
 use run_laws::every_run_is_lawful;
 use script_lines::{a_run_may_end_without_memory, run};
-use standard_vectors::vectors_text;
+use crate::vectors_text;
 use std::alloc::{AllocError, Global};
 
 /// Reads a script from the source, and writes its report to the sink: a quiet one without the octets of the flights.

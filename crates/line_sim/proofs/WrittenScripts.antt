@@ -5,8 +5,8 @@ use Rattle.std.specs.Prelude.{All, AllPairs}
 use Rattle.plc_base.specs.Streams.{SinkState}
 use Rattle.line_simulation.specs.Turns.{Ran}
 use Rattle.line_sim.specs.declared.command.Mode.{Mode}
-use Rattle.program_ends.specs.declared.status.Status.{Status}
-use Rattle.program_ends.specs.Texts.{WritesText}
+use Rattle.script_runs.specs.declared.status.Status.{Status}
+use Rattle.script_runs.specs.Texts.{WritesText}
 use Rattle.line_sim.specs.Arrivals.{IsCausal, InOrder, arrivals}
 use Rattle.line_sim.specs.Recorders.{Recorded}
 use Rattle.line_sim.specs.Scripts.{LeadsTo, InjectsNothing}

@@ -5,8 +5,8 @@ use Rattle.std.specs.Option.{option_and_then}
 use Rattle.std.specs.declared.alloc.Global.{Global}
 use Rattle.plc_base.specs.Streams.{SourceState, SinkState, SourceRose}
 use Rattle.line_plan.specs.declared.plan.Plan.{Plan}
-use Rattle.plan_options.specs.Options.{are_options}
-use Rattle.plan_options.specs.Descriptions.{IsDescribed, IsBad}
+use Rattle.line_plan.specs.Options.{are_options}
+use Rattle.line_plan.specs.OptionDescriptions.{IsDescribed, IsBad}
 use Rattle.line_rules.specs.Worlds.{World}
 use Rattle.line_simulation.specs.Attackers.{has_attackers}
 use Rattle.line_simulation.specs.Simulations.{Simulated}
@@ -21,9 +21,9 @@ use Rattle.line_sim.specs.Times.{IsUpTo, times}
 use Rattle.line_sim.specs.declared.command.Command.{Command}
 use Rattle.line_sim.specs.declared.command.Mode.{Mode}
 use Rattle.line_sim.specs.declared.command.Mode.TheVariants as modes
-use Rattle.program_ends.specs.declared.status.Status.{Status}
-use Rattle.program_ends.specs.declared.status.Status.TheVariants as status
-use Rattle.program_ends.specs.Texts.{WritesText}
+use Rattle.script_runs.specs.declared.status.Status.{Status}
+use Rattle.script_runs.specs.declared.status.Status.TheVariants as status
+use Rattle.script_runs.specs.Texts.{WritesText}
 
 -- # The script of a run
 

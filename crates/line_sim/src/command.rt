@@ -2,7 +2,7 @@
 ghost use Rattle.std.specs.Prelude.{◌≡◌, option_map};
 ghost use Rattle.line_sim.specs.Tool.{mode_named, asked_by, asked_of};
 
-use plan_options::are_options;
+use line_plan::are_options;
 
 /// What is written of the run.
 #[derive(Clone, Copy, Debug, PartialEq, Eq)]

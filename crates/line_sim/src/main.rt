@@ -10,7 +10,7 @@ mod recorder;
 mod tool;
 
 use plc_base::{StdSink, StdSource};
-use program_ends::{Status, words};
+use script_runs::{Status, words};
 use std::alloc::AllocError;
 use std::process::ExitCode;
 use tool::run_tool;

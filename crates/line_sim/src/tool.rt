@@ -10,9 +10,9 @@ use crate::command::{Mode, command_of};
 use crate::recorder::Recorder;
 use line_plan::Plan;
 use line_simulation::{Made, Simulation, has_attackers};
-use plan_options::{NoPlan, read_plan};
+use line_plan::{NoPlan, read_plan};
 use plc_base::{Sink, Source};
-use program_ends::{Status, write_whole};
+use script_runs::{Status, write_whole};
 use std::alloc::{AllocError, Global};
 
 const USAGE: &[u8; 61] = b"usage: line_sim run | measure [--seed N] [--set KEY=VALUE]..\n";

@@ -18,8 +18,8 @@ use Rattle.line_events.specs.declared.event.Answer.TheVariants as answers
 use Rattle.line_events.specs.declared.event.Event.TheVariants as events
 use Rattle.line_figures.specs.declared.frames.Loss.{Loss}
 use Rattle.line_figures.specs.declared.frames.Loss.TheVariants as losses
-use Rattle.line_members.specs.declared.acts.Notice.{Notice}
-use Rattle.line_members.specs.declared.acts.Notice.TheVariants as notices
+use Rattle.line_owner.specs.declared.acts.Notice.{Notice}
+use Rattle.line_owner.specs.declared.acts.Notice.TheVariants as notices
 use Rattle.line_place.specs.declared.link.Link.{Link}
 use Rattle.line_place.specs.Rows.{hearers}
 use Rattle.line_simulation.specs.declared.arrivals.Brought.{Brought}

@@ -5,7 +5,7 @@ use Rattle.air_draws.specs.Draws.{below, after}
 use Rattle.line_events.specs.declared.event.Answer.{Answer}
 use Rattle.line_events.specs.declared.event.Answer.TheVariants as answers
 use Rattle.line_events.specs.declared.event.Event.TheVariants as events
-use Rattle.line_members.specs.declared.acts.Notice.TheVariants as notices
+use Rattle.line_owner.specs.declared.acts.Notice.TheVariants as notices
 use Rattle.plc_base.specs.declared.address.Eui.{Eui}
 use Rattle.line_simulation.specs.declared.facts.Facts.{Facts}
 use Rattle.line_simulation.specs.declared.remarks.Remark.TheVariants as remarks

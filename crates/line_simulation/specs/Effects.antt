@@ -9,18 +9,18 @@ use Rattle.line_events.specs.declared.event.Answer.TheVariants as answers
 use Rattle.line_events.specs.Answers.{is_ok}
 use Rattle.line_figures.specs.declared.frames.FrameKind.{FrameKind}
 use Rattle.line_figures.specs.declared.frames.FrameKind.TheVariants as kinds
-use Rattle.line_members.specs.declared.acts.Act.{Act}
-use Rattle.line_members.specs.declared.acts.Acts.{Acts}
-use Rattle.line_members.specs.declared.acts.Acts.TheVariants.{Nothing, One, Two, Three, Four}
-use Rattle.line_members.specs.declared.acts.Command.{Command}
-use Rattle.line_members.specs.declared.acts.Notice.{Notice}
-use Rattle.line_members.specs.declared.acts.Notice.TheVariants as notices
-use Rattle.line_members.specs.declared.acts.Outcome.{Outcome}
-use Rattle.line_members.specs.declared.acts.Outcome.TheVariants as outcomes
-use Rattle.line_members.specs.declared.acts.Task.{Task}
-use Rattle.line_members.specs.declared.acts.Task.TheVariants as tasks
-use Rattle.line_members.specs.declared.asked.Reading.{Reading}
-use Rattle.line_members.specs.Asked.{reading_at, with_reading}
+use Rattle.line_owner.specs.declared.acts.Act.{Act}
+use Rattle.line_owner.specs.declared.acts.Acts.{Acts}
+use Rattle.line_owner.specs.declared.acts.Acts.TheVariants.{Nothing, One, Two, Three, Four}
+use Rattle.line_owner.specs.declared.acts.Command.{Command}
+use Rattle.line_owner.specs.declared.acts.Notice.{Notice}
+use Rattle.line_owner.specs.declared.acts.Notice.TheVariants as notices
+use Rattle.line_owner.specs.declared.acts.Outcome.{Outcome}
+use Rattle.line_owner.specs.declared.acts.Outcome.TheVariants as outcomes
+use Rattle.line_owner.specs.declared.acts.Task.{Task}
+use Rattle.line_owner.specs.declared.acts.Task.TheVariants as tasks
+use Rattle.line_owner.specs.declared.asked.Reading.{Reading}
+use Rattle.line_owner.specs.Asked.{reading_at, with_reading}
 use Rattle.line_owner.specs.States.{Turned}
 use Rattle.line_owner.specs.Turns.{turn, noticed, answered}
 use Rattle.line_simulation.specs.declared.book.Outline.{Outline}

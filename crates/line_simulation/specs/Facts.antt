@@ -3,8 +3,8 @@ use Rattle.std.specs.Prelude.{ℕ, Option, Some, None}
 use Rattle.line_events.specs.declared.happenings.Admission.{Admission}
 use Rattle.line_events.specs.declared.happenings.Handed.{Handed}
 use Rattle.line_events.specs.declared.happenings.Happenings.{Happenings}
-use Rattle.line_members.specs.declared.messages.Message.{Message}
-use Rattle.line_members.specs.Messages.{message_in}
+use Rattle.line_owner.specs.declared.messages.Message.{Message}
+use Rattle.line_owner.specs.Messages.{message_in}
 use Rattle.line_simulation.specs.declared.facts.Came.{Came}
 use Rattle.line_simulation.specs.declared.facts.Facts.{Facts}
 use Rattle.line_simulation.specs.declared.facts.Granted.{Granted}

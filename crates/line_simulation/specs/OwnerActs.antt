@@ -7,18 +7,18 @@ use Rattle.line_air.specs.Nodes.{queue_of, with_joined, with_power, without_powe
 use Rattle.line_air.specs.Turns.{AirState}
 use Rattle.line_events.specs.declared.event.Event.{Event}
 use Rattle.line_events.specs.declared.event.Event.TheVariants as events
-use Rattle.line_members.specs.declared.acts.Act.{Act}
-use Rattle.line_members.specs.declared.acts.Act.TheVariants.{Step, Put, Do, Say, Dark}
-use Rattle.line_members.specs.declared.acts.Command.{Command}
-use Rattle.line_members.specs.declared.acts.Command.TheVariants as commands
-use Rattle.line_members.specs.declared.acts.Outcome.{Outcome}
-use Rattle.line_members.specs.declared.acts.Outcome.TheVariants as outcomes
-use Rattle.line_members.specs.declared.acts.Task.{Task}
-use Rattle.line_members.specs.declared.acts.Task.TheVariants as tasks
-use Rattle.line_members.specs.declared.messages.Kind.{Kind}
-use Rattle.line_members.specs.declared.messages.Kind.TheVariants as kinds
-use Rattle.line_members.specs.declared.messages.Message.{Message}
-use Rattle.line_members.specs.Messages.{message_octets}
+use Rattle.line_owner.specs.declared.acts.Act.{Act}
+use Rattle.line_owner.specs.declared.acts.Act.TheVariants.{Step, Put, Do, Say, Dark}
+use Rattle.line_owner.specs.declared.acts.Command.{Command}
+use Rattle.line_owner.specs.declared.acts.Command.TheVariants as commands
+use Rattle.line_owner.specs.declared.acts.Outcome.{Outcome}
+use Rattle.line_owner.specs.declared.acts.Outcome.TheVariants as outcomes
+use Rattle.line_owner.specs.declared.acts.Task.{Task}
+use Rattle.line_owner.specs.declared.acts.Task.TheVariants as tasks
+use Rattle.line_owner.specs.declared.messages.Kind.{Kind}
+use Rattle.line_owner.specs.declared.messages.Kind.TheVariants as kinds
+use Rattle.line_owner.specs.declared.messages.Message.{Message}
+use Rattle.line_owner.specs.Messages.{message_octets}
 use Rattle.line_simulation.specs.declared.facts.Facts.{Facts}
 use Rattle.line_simulation.specs.declared.remarks.Remark.TheVariants as remarks
 use Rattle.line_simulation.specs.declared.work.Job.{Job}

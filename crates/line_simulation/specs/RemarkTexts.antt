@@ -2,10 +2,10 @@
 use Rattle.std.specs.Prelude.{ℕ, List, ◌++◌, [], Option, Some, None, codes, decimal}
 use Rattle.line_figures.specs.declared.frames.Loss.{Loss}
 use Rattle.line_figures.specs.declared.frames.Loss.TheVariants as losses
-use Rattle.line_members.specs.declared.acts.Command.{Command}
-use Rattle.line_members.specs.declared.acts.Command.TheVariants as commands
-use Rattle.line_members.specs.declared.acts.Saying.{Saying}
-use Rattle.line_members.specs.declared.acts.Saying.TheVariants as sayings
+use Rattle.line_owner.specs.declared.acts.Command.{Command}
+use Rattle.line_owner.specs.declared.acts.Command.TheVariants as commands
+use Rattle.line_owner.specs.declared.acts.Saying.{Saying}
+use Rattle.line_owner.specs.declared.acts.Saying.TheVariants as sayings
 use Rattle.line_simulation.specs.declared.remarks.Remark.{Remark}
 use Rattle.line_simulation.specs.declared.remarks.Remark.TheVariants as remarks
 

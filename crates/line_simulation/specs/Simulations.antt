@@ -2,7 +2,7 @@
 use Rattle.std.specs.Prelude.{ℕ, List, ◌∷◌}
 use Rattle.rand_pcg.specs.Lcg.{Lcg}
 use Rattle.line_air.specs.Turns.{Sky}
-use Rattle.line_members.specs.declared.asked.Reading.{Reading}
+use Rattle.line_owner.specs.declared.asked.Reading.{Reading}
 use Rattle.line_owner.specs.States.{OwnerState}
 use Rattle.line_plan.specs.declared.plan.Plan.{Plan}
 use Rattle.line_simulation.specs.Books.{Addresses}

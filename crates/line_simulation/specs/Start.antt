@@ -6,7 +6,7 @@ use Rattle.line_air.specs.declared.settings.Rate.{Rate}
 use Rattle.line_air.specs.declared.settings.Rate.TheVariants as rates
 use Rattle.line_air.specs.declared.settings.Settings.{Settings as AirSettings}
 use Rattle.line_air.specs.Turns.{quiet_air}
-use Rattle.line_members.specs.Members.{new_member}
+use Rattle.line_owner.specs.Members.{new_member}
 use Rattle.line_owner.specs.declared.settings.Settings.{Settings as OwnerSettings}
 use Rattle.line_owner.specs.States.{OwnerState}
 use Rattle.line_place.specs.declared.layout.Layout.TheVariants as layouts

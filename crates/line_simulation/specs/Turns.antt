@@ -4,8 +4,8 @@ use Rattle.line_air.specs.declared.calendar.Due.{Due}
 use Rattle.line_air.specs.declared.calendar.Moment.{Moment}
 use Rattle.line_air.specs.declared.calendar.Moment.TheVariants as moments
 use Rattle.line_air.specs.Turns.{sky_after_end}
-use Rattle.line_members.specs.declared.acts.Task.TheVariants as tasks
-use Rattle.line_members.specs.Times.{micros}
+use Rattle.line_owner.specs.declared.acts.Task.TheVariants as tasks
+use Rattle.line_owner.specs.Times.{micros}
 use Rattle.plan_tables.specs.declared.incidents.Incident.{Incident}
 use Rattle.line_simulation.specs.declared.remarks.Remark.TheVariants as remarks
 use Rattle.line_simulation.specs.declared.turns.TheConstants.{MOST_TURNS, MOST_WORK}

@@ -21,7 +21,7 @@ use crate::work::{PendingWork, Stop};
 use line_air::{Attempt, End, Ended, Frame, Hearing, Target};
 use line_events::{Answer, Event};
 use line_figures::{FrameKind, Loss};
-use line_members::Notice;
+use line_owner::Notice;
 use line_place::Link;
 use plc_base::LinkCost;
 use std::alloc::AllocError;

@@ -17,7 +17,7 @@ use crate::remarks::Remark;
 use crate::simulation::{Kept, Simulation};
 use crate::work::{PendingWork, Stop};
 use line_events::{Answer, Event};
-use line_members::Notice;
+use line_owner::Notice;
 use plc_base::{Eui, OctetRef};
 use std::alloc::{AllocError, Global};
 

@@ -17,7 +17,7 @@ use crate::work::{PendingWork, Stop};
 use line_air::Frame;
 use line_events::Answer;
 use line_figures::FrameKind;
-use line_members::{Act, Acts, Command, Kind, Notice, Outcome, Task};
+use line_owner::{Act, Acts, Command, Kind, Notice, Outcome, Task};
 use plan_tables::Way;
 use std::alloc::AllocError;
 

@@ -3,7 +3,7 @@ ghost use Rattle.std.specs.Prelude.{◌≡◌, ◌<◌, ◌∷◌, [], IfOk, OnO
 ghost use Rattle.line_air.specs.Ends.{with_node};
 ghost use Rattle.line_air.specs.Nodes.{without_power};
 ghost use Rattle.line_events.specs.declared.event.Event.TheVariants as events;
-ghost use Rattle.line_members.specs.Messages.{message_octets};
+ghost use Rattle.line_owner.specs.Messages.{message_octets};
 ghost use Rattle.line_simulation.specs.OwnerActs.{job_put, reading_octets, index_of, event_of, told, before_command, air_after, book_after};
 ghost use Rattle.line_simulation.specs.OwnerActs.{after_command};
 ghost use Rattle.line_simulation.specs.OwnerActs.{brought_by, command_stepped, commanded, poll_tried, task_put, queue_length, darkened, acted, told_by};
@@ -21,7 +21,7 @@ use crate::simulation::Simulation;
 use crate::work::{Job, PendingWork, Stop};
 use line_air::Moment;
 use line_events::Event;
-use line_members::{Act, Command, Kind, Message, Outcome, Saying, Task};
+use line_owner::{Act, Command, Kind, Message, Outcome, Saying, Task};
 use plc_base::{Eui, Key, KeyIndex, OctetRef, RandomOctets};
 use std::alloc::AllocError;
 

@@ -4,7 +4,7 @@ ghost use Rattle.line_simulation.specs.Effects.{is_store, outcome_of};
 ghost use Rattle.line_simulation.specs.Facts.{came_in, granted_in, facts_of};
 
 use line_events::{Answer, Happenings};
-use line_members::{Message, Outcome};
+use line_owner::{Message, Outcome};
 
 /// A message of the owner's that came up.
 #[derive(Clone, Copy, Debug)]

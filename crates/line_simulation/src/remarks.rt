@@ -10,7 +10,7 @@ use crate::recording::{RecordFault, Recording};
 use crate::simulation::Simulation;
 use crate::work::Stop;
 use line_figures::Loss;
-use line_members::{Command, Saying};
+use line_owner::{Command, Saying};
 use std::alloc::{AllocError, Global};
 
 /// What the events of a script cannot say.

@@ -11,7 +11,7 @@ use crate::simulation::Simulation;
 use air_draws::{Draws, Purpose};
 use line_air::{Air, Calendar, Rate};
 use line_figures::Figures;
-use line_members::Asked;
+use line_owner::Asked;
 use line_owner::Owner;
 use line_place::{Field, Layout, Place, Scattering};
 use line_plan::Plan;

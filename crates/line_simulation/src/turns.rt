@@ -11,7 +11,7 @@ use crate::recording::Recording;
 use crate::simulation::Simulation;
 use crate::work::{Job, PendingWork, Stop};
 use line_air::{Due, Moment};
-use line_members::{Task, micros};
+use line_owner::{Task, micros};
 use plan_tables::Incident;
 use std::alloc::{AllocError, Global};
 

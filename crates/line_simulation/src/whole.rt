@@ -1,6 +1,6 @@
 //! A run as a whole, and its summary.
 ghost use Rattle.std.specs.Prelude.{◌≡◌, ◌-◌, IfOk, OnOk, string_bytes};
-ghost use Rattle.line_members.specs.Times.{micros};
+ghost use Rattle.line_owner.specs.Times.{micros};
 ghost use Rattle.line_simulation.specs.Runs.{Ends};
 ghost use Rattle.line_simulation.specs.Simulations.{state_of};
 ghost use Rattle.line_simulation.specs.Steps.{texted};
@@ -12,7 +12,7 @@ use crate::remarks::Remark;
 use crate::simulation::Simulation;
 use crate::work::Stop;
 use line_figures::{Ending, Line};
-use line_members::micros;
+use line_owner::micros;
 use std::alloc::AllocError;
 
 impl<R: Recording> Simulation<R> {

@@ -1,6 +1,6 @@
 //! What is to be done before the next moment of the calendar.
 use crate::facts::Facts;
-use line_members::{Act, Command, Notice, Outcome, Task};
+use line_owner::{Act, Command, Notice, Outcome, Task};
 use plan_tables::Leaves;
 use std::alloc::{AllocError, AllocFailed};
 

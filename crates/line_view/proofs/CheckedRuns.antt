@@ -7,11 +7,11 @@ use Rattle.script_lines.specs.declared.machine.Exit.TheVariants as exits
 use Rattle.script_lines.specs.declared.window.TheConstants.{WINDOW}
 use Rattle.script_lines.specs.Clauses.{Comes}
 use Rattle.script_runs.specs.TakenLines.{first_bad}
-use Rattle.program_ends.specs.declared.status.Status.{Status}
-use Rattle.program_ends.specs.declared.status.Status.TheVariants as status
+use Rattle.script_runs.specs.declared.status.Status.{Status}
+use Rattle.script_runs.specs.declared.status.Status.TheVariants as status
 use Rattle.line_view.specs.CheckRuns.{CheckRun, is_bad, outcome}
-use Rattle.program_ends.specs.Runs.{Ran}
-use Rattle.program_ends.specs.Statuses.{status_of}
+use Rattle.script_runs.specs.Runs.{Ran}
+use Rattle.script_runs.specs.Statuses.{status_of}
 use Rattle.line_view.specs.Tool.{Names}
 use Rattle.line_view.proofs.Checks.{bad_at_end, bad_where_stopped}
 

@@ -10,7 +10,7 @@ use Rattle.line_script.specs.declared.reading.Reading.{Reading}
 use Rattle.line_script.specs.declared.reading.Reading.TheVariants.{Quiet, NoForm, Reads}
 use Rattle.line_script.specs.declared.report.Reason.TheVariants as reasons
 use Rattle.line_script.specs.LineReader.{reading}
-use Rattle.script_findings.specs.Findings.{FindingParts}
+use Rattle.script_faults.specs.Findings.{FindingParts}
 use Rattle.script_faults.specs.Forms.{has_reading}
 use Rattle.script_faults.specs.LineFindings.{line_finding}
 use Rattle.script_faults.proofs.FoundLines.{found_where}

@@ -21,9 +21,9 @@ use Rattle.line_record.specs.declared.recorded.RecordedEvent.{RecordedEvent}
 use Rattle.line_record.specs.Acts.{act_of}
 use Rattle.line_record.specs.Kinds.{prepares, sends}
 use Rattle.line_record.specs.RunRecords.{note_of}
-use Rattle.line_stories.specs.Laws.{IsDatagramStory, ReadiesOnly, first_up, is_of, sends_in}
-use Rattle.line_stories.specs.Stories.{stories_of}
-use Rattle.line_stories.proofs.DatagramStories.{datagrams_are_reached}
+use Rattle.line_record.specs.Laws.{IsDatagramStory, ReadiesOnly, first_up, is_of, sends_in}
+use Rattle.line_record.specs.Stories.{stories_of}
+use Rattle.line_record.proofs.DatagramStories.{datagrams_are_reached}
 use Rattle.event_sentences.specs.Truth.{answer_of}
 use Rattle.line_view.specs.Recordings.{Recording, no_recording, recording_after, event_of_entry}
 use Rattle.line_view.specs.Truths.{DatagramsCameAsSaid, entries_in, first_handing_up, recorded_all, sends_among}

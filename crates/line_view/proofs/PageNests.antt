@@ -8,16 +8,16 @@ use Rattle.script_lines.specs.Lines.{Content, Line, lines}
 use Rattle.script_lines.specs.Outcomes.{Turn, Skips, Takes, Stops, Outcome, StopsShortOf, outcome_turn, outcome_from}
 use Rattle.script_lines.specs.Clauses.{Comes}
 use Rattle.script_runs.specs.TakenLines.{Taking, Skipped, Taken, Refused, taking}
-use Rattle.line_stories.specs.Stories.{Stories, stories_of}
+use Rattle.line_record.specs.Stories.{Stories, stories_of}
 use Rattle.line_record.specs.Verdicts.{ends_of}
 use Rattle.run_pages.specs.Pages.{IsPage, Sheet}
 use Rattle.run_pages.proofs.PageNests.{page_nests}
 use Rattle.story_accounts.specs.Indexes.{index_of}
 use Rattle.line_view.specs.BadLines.{bad_words}
 use Rattle.line_view.specs.declared.bad_line.BadLine.{BadLine}
-use Rattle.program_ends.specs.declared.status.Status.{Status}
-use Rattle.program_ends.specs.declared.status.Status.TheVariants as status
-use Rattle.program_ends.specs.Statuses.{status_of}
+use Rattle.script_runs.specs.declared.status.Status.{Status}
+use Rattle.script_runs.specs.declared.status.Status.TheVariants as status
+use Rattle.script_runs.specs.Statuses.{status_of}
 use Rattle.line_view.specs.PageRuns.{PageRun, chart_run, finding, nothing_paged, page_text, paged, rules, sheet_with}
 use Rattle.line_view.specs.RunMachines.{end_of, found_status, turn_by, turn_of}
 use Rattle.line_view.specs.Tool.{Accounts, IsWhole}

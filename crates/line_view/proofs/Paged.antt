@@ -5,7 +5,7 @@ use Rattle.std.specs.Prelude.{IfSome, if◌then◌else◌, is_some}
 use Rattle.node_rules.specs.Memory.{Node}
 use Rattle.node_rules.specs.declared.shown.Shown.{Shown}
 use Rattle.node_rules.specs.ShownNodes.{shown_of}
-use Rattle.node_pasts.specs.Pasts.{NodePast, looked as past_looked}
+use Rattle.line_record.specs.Pasts.{NodePast, looked as past_looked}
 use Rattle.line_events.specs.declared.event.Event.{Event}
 use Rattle.line_rules.specs.Worlds.{node_at}
 use Rattle.line_rules.specs.Runs.{Entry}

@@ -10,9 +10,9 @@ use Rattle.script_lines.specs.Outcomes.{Turn, Skips, Takes, Stops, Bad, Ended, O
 use Rattle.script_lines.specs.Clauses.{Comes}
 use Rattle.line_rules.specs.Worlds.{World}
 use Rattle.script_runs.specs.TakenLines.{Taking, Skipped, Taken, Refused, taking, BadLine, bad_by, first_bad_from, first_bad}
-use Rattle.program_ends.specs.declared.status.Status.{Status}
-use Rattle.program_ends.specs.declared.status.Status.TheVariants as status
-use Rattle.program_ends.specs.Statuses.{status_of}
+use Rattle.script_runs.specs.declared.status.Status.{Status}
+use Rattle.script_runs.specs.declared.status.Status.TheVariants as status
+use Rattle.script_runs.specs.Statuses.{status_of}
 use Rattle.line_view.specs.declared.run_machine.Finding.{Finding}
 use Rattle.line_view.specs.declared.run_machine.Finding.TheVariants as findings
 use Rattle.line_view.specs.RunMachines.{FollowsRun, Follows, RunRules, end_of, found_status, outcome_by, turn_by, turn_of}

@@ -18,12 +18,12 @@ use Rattle.line_record.specs.Kinds.{is_setup}
 use Rattle.line_record.specs.RunRecords.{recorded_event}
 use Rattle.sentence_parts.specs.declared.part.Part.TheVariants.{Words, Number}
 use Rattle.sentence_parts.specs.Parts.{parts_text}
-use Rattle.script_findings.specs.Findings.{FindingParts, finding_at, noted}
-use Rattle.script_findings.specs.Texts.{finding_text, unseen_text, object_text}
+use Rattle.script_faults.specs.Findings.{FindingParts, finding_at, noted}
+use Rattle.script_faults.specs.Texts.{finding_text, unseen_text, object_text}
 use Rattle.script_faults.specs.LineFindings.{line_finding}
-use Rattle.event_faults.specs.declared.run.Made.{Made}
-use Rattle.event_faults.specs.Runs.{Other}
-use Rattle.event_faults.specs.EventFindings.{Bad, event_finding}
+use Rattle.script_faults.specs.declared.run.Made.{Made}
+use Rattle.script_faults.specs.Runs.{Other}
+use Rattle.script_faults.specs.EventFindings.{Bad, event_finding}
 use Rattle.script_lines.specs.Lines.{Content, Text, Long, TooMuch}
 use Rattle.script_lines.specs.Clauses.{IsStop}
 use Rattle.script_lines.specs.Outcomes.{Turn, Takes, Stops, Outcome, outcome as outcome_of}

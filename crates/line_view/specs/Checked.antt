@@ -2,7 +2,7 @@
 use Rattle.std.specs.Prelude.{◌≡◌, ℕ, ◌∷◌, ◌++◌, [], Bool, List, Option, None, Some, Result, Ok, Err, if◌then◌else◌}
 use Rattle.line_script.specs.declared.report.Reason.{Reason}
 use Rattle.line_script.specs.declared.report.Reason.TheVariants as reasons
-use Rattle.script_findings.specs.Findings.{FindingParts}
+use Rattle.script_faults.specs.Findings.{FindingParts}
 use Rattle.script_lines.specs.declared.text_output.StopReason.{StopReason}
 use Rattle.script_lines.specs.declared.text_output.StopReason.TheVariants as stops
 use Rattle.script_lines.specs.Lines.{Content, Text, Long, TooMuch, Line, lines}

@@ -5,7 +5,7 @@ use Rattle.sentence_parts.specs.declared.part.Part.TheVariants.{Words, Number}
 use Rattle.sentence_parts.specs.Parts.{parts_text}
 use Rattle.line_record.specs.declared.ends.Ends.{Ends}
 use Rattle.line_record.specs.Verdicts.{ends_of}
-use Rattle.line_stories.specs.Stories.{Stories, stories_of}
+use Rattle.line_record.specs.Stories.{Stories, stories_of}
 use Rattle.line_rules.specs.Worlds.{World}
 use Rattle.line_rules.specs.Runs.{Entry}
 use Rattle.story_accounts.specs.declared.section.Chosen.{Chosen}

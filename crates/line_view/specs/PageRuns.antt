@@ -4,7 +4,7 @@ use Rattle.script_lines.specs.Lines.{Content, Text, Long, TooMuch}
 use Rattle.script_lines.specs.Outcomes.{Outcome, Takes}
 use Rattle.node_rules.specs.Memory.{Node}
 use Rattle.node_rules.specs.ShownNodes.{shown_of}
-use Rattle.node_pasts.specs.Pasts.{NodePast, looked as past_looked, no_past}
+use Rattle.line_record.specs.Pasts.{NodePast, looked as past_looked, no_past}
 use Rattle.line_record.specs.declared.act.Act.{Act}
 use Rattle.line_record.specs.declared.act.Act.TheVariants as acts
 use Rattle.line_record.specs.declared.recorded.RecordedEvent.{RecordedEvent}
@@ -13,7 +13,7 @@ use Rattle.line_record.specs.RunRecords.{numbered}
 use Rattle.line_record.specs.Verdicts.{ends_of}
 use Rattle.line_record.specs.declared.ends.Ends.{Ends}
 use Rattle.story_accounts.specs.Indexes.{Index, index_of}
-use Rattle.line_stories.specs.Stories.{Stories, stories_of}
+use Rattle.line_record.specs.Stories.{Stories, stories_of}
 use Rattle.line_events.specs.declared.event.Event.{Event}
 use Rattle.line_rules.specs.Worlds.{node_at}
 use Rattle.line_rules.specs.Runs.{Entry}

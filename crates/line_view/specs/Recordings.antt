@@ -4,10 +4,10 @@ use Rattle.std.specs.Option.{option_and_then, option_map, unwrap_or}
 use Rattle.std.specs.Str.{bytes_eq}
 use Rattle.plc_base.specs.declared.address.Eui.{Eui}
 use Rattle.plc_base.specs.declared.key.Key.{Key}
-use Rattle.frame_words.specs.Gists.{frame_target}
-use Rattle.frame_details.specs.declared.detail.FlightMore.{FlightMore}
-use Rattle.frame_details.specs.Details.{more_of}
-use Rattle.frame_details.specs.Payloads.{carried_of}
+use Rattle.frame_facts.specs.Gists.{frame_target}
+use Rattle.frame_facts.specs.declared.detail.FlightMore.{FlightMore}
+use Rattle.frame_facts.specs.Details.{more_of}
+use Rattle.frame_facts.specs.Payloads.{carried_of}
 use Rattle.line_record.specs.Counters.{counters_with, flight_with}
 use Rattle.sentence_parts.specs.Whos.{device_of}
 use Rattle.line_events.specs.declared.event.Answer.{Answer}

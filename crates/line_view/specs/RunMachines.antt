@@ -8,8 +8,8 @@ use Rattle.line_rules.specs.Runs.{Entry}
 use Rattle.line_rules.specs.Worlds.{World, start}
 use Rattle.script_runs.specs.TakenLines.{Taking, Skipped, Taken, Refused}
 unfoldable use Rattle.script_runs.specs.TakenLines.{taking}
-use Rattle.program_ends.specs.declared.status.Status.{Status}
-use Rattle.program_ends.specs.declared.status.Status.TheVariants as status
+use Rattle.script_runs.specs.declared.status.Status.{Status}
+use Rattle.script_runs.specs.declared.status.Status.TheVariants as status
 use Rattle.line_view.specs.declared.bad_line.BadLine.{BadLine}
 use Rattle.line_view.specs.declared.run_machine.Finding.{Finding}
 use Rattle.line_view.specs.declared.run_machine.Finding.TheVariants as findings

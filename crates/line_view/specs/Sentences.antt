@@ -12,7 +12,7 @@ use Rattle.line_events.specs.declared.event.Answer.{Answer}
 use Rattle.line_events.specs.declared.event.Event.{Event}
 use Rattle.line_events.specs.declared.event.Event.TheVariants as events
 use Rattle.line_rules.specs.Worlds.{World, node_at}
-use Rattle.frame_details.specs.declared.detail.FlightMore.{FlightMore}
+use Rattle.frame_facts.specs.declared.detail.FlightMore.{FlightMore}
 use Rattle.line_record.specs.declared.act.Act.{Act}
 use Rattle.line_record.specs.declared.act.Act.TheVariants as acts
 use Rattle.line_record.specs.declared.recorded.RecordedEvent.{RecordedEvent}
@@ -20,7 +20,7 @@ use Rattle.line_record.specs.declared.recorded.RecordedFlight.{RecordedFlight}
 use Rattle.line_record.specs.Kinds.{actor_of, is_for_another, makes_node}
 use Rattle.line_record.specs.Lists.{changed_place}
 use Rattle.line_record.specs.RunRecords.{made_by, numbered}
-use Rattle.line_stories.specs.Stories.{homes_with, newcomer}
+use Rattle.line_record.specs.Stories.{homes_with, newcomer}
 use Rattle.sentence_parts.specs.declared.part.Who.{Who}
 use Rattle.sentence_parts.specs.declared.part.Who.TheVariants as whos
 use Rattle.event_sentences.specs.declared.heard.DrawnKey.{DrawnKey}

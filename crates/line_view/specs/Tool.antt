@@ -12,10 +12,10 @@ use Rattle.line_view.specs.declared.run_machine.Finding.{Finding}
 use Rattle.line_view.specs.RunMachines.{found_status}
 use Rattle.line_view.specs.declared.tool.Command.{Command}
 use Rattle.line_view.specs.declared.tool.Command.TheVariants.{Capture, Check, Explain, Page}
-use Rattle.program_ends.specs.declared.status.Status.{Status}
-use Rattle.program_ends.specs.declared.status.Status.TheVariants as status
-use Rattle.program_ends.specs.Runs.{Ran}
-use Rattle.program_ends.specs.Statuses.{status_of}
+use Rattle.script_runs.specs.declared.status.Status.{Status}
+use Rattle.script_runs.specs.declared.status.Status.TheVariants as status
+use Rattle.script_runs.specs.Runs.{Ran}
+use Rattle.script_runs.specs.Statuses.{status_of}
 use Rattle.line_view.specs.CheckRuns.{is_bad, outcome}
 use Rattle.line_script.specs.Words.{number_within}
 use Rattle.story_accounts.specs.declared.section.Chosen.{Chosen}

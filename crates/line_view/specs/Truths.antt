@@ -5,8 +5,8 @@ use Rattle.line_events.specs.declared.event.Event.TheVariants as events
 use Rattle.node_rules.specs.Ciphers.{network}
 use Rattle.line_rules.specs.Runs.{Entry, IsRun}
 use Rattle.line_rules.specs.Worlds.{start}
-use Rattle.line_stories.specs.Laws.{IsDatagramStory, is_of}
-use Rattle.line_stories.specs.Stories.{stories_of}
+use Rattle.line_record.specs.Laws.{IsDatagramStory, is_of}
+use Rattle.line_record.specs.Stories.{stories_of}
 use Rattle.line_record.specs.Acts.{act_of}
 use Rattle.line_record.specs.Kinds.{actor_of, sends}
 use Rattle.line_record.specs.RunRecords.{note_of}

@@ -3,19 +3,19 @@ ghost use Rattle.std.specs.Prelude.{◌≡◌, ◌==◌, ◌<◌, ◌^◌, ◌++
 ghost use Rattle.line_events.specs.Events.{IsEvent};
 ghost use Rattle.line_script.specs.declared.word.TheConstants.{LINE_OCTETS};
 ghost use Rattle.line_script.specs.LineReader.{reading};
-ghost use Rattle.event_faults.specs.EventFindings.{event_finding};
+ghost use Rattle.script_faults.specs.EventFindings.{event_finding};
 ghost use Rattle.line_view.specs.Checked.{Looked, LooksLast, Stepped};
 ghost use Rattle.line_view.specs.CheckRuns as spec_check_runs;
 ghost use Rattle.script_runs.specs.TakenLines.{event_taking};
 
-use event_faults::{BadEvent, FirstOther, Made};
+use script_faults::{BadEvent, FirstOther, Made};
 use line_events::{Event, MAX_EVENTS, StepFault};
 use line_record::{RecordedEvent, act_of, is_setup, recorded_event};
 use line_script::{Reading, Reason, read_line};
 use line_world::{Buffers, World};
 use plc_base::Eui;
 use script_faults::{line_finding, word_of_reason};
-use script_findings::{Finding, push_finding, push_object, push_unseen};
+use script_faults::{Finding, push_finding, push_object, push_unseen};
 use sentence_parts::{number, push_parts, words};
 use std::alloc::{AllocError, Global};
 use std::marker::Model;

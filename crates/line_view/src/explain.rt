@@ -9,7 +9,7 @@ use crate::run_sentences::RunSentences;
 use line_events::Event;
 use line_record::{Ends, ends_of};
 use line_script::Reason;
-use line_stories::{RunStories, stories_of};
+use line_record::{RunStories, stories_of};
 use line_world::Buffers;
 use sentence_parts::{number, push_parts, words};
 use std::alloc::{AllocError, Global};

@@ -16,7 +16,7 @@ mod run_sentences;
 mod tool;
 
 use plc_base::{StdSink, StdSource};
-use program_ends::{Status, words};
+use script_runs::{Status, words};
 use std::alloc::AllocError;
 use std::process::ExitCode;
 use tool::run_view;

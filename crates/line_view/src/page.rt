@@ -11,9 +11,9 @@ use line_record::{
     Act, Ends, RecordedEvent, actor_of, ends_of, is_for_another, makes_node, person_of,
 };
 use line_script::Reason;
-use line_stories::{RunStories, stories_of};
+use line_record::{RunStories, stories_of};
 use line_world::Buffers;
-use node_pasts::Pasts;
+use line_record::Pasts;
 use node_rules::Shown;
 use run_charts::ChartRun;
 use run_pages::{Remarks, Sheet};

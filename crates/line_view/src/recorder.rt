@@ -3,13 +3,13 @@ ghost use Rattle.std.specs.Prelude.{◌≡◌, ◌≤◌, ◌<◌, ◌+◌, ◌^
 ghost use Rattle.std.specs.Option.{ForSome, option_copied};
 ghost use Rattle.plc_base.specs.declared.limits.TheConstants.{LONGEST_FRAME};
 ghost use Rattle.line_events.specs.Events.{IsEvent};
-ghost use Rattle.frame_details.specs.Payloads.{held};
+ghost use Rattle.frame_facts.specs.Payloads.{held};
 ghost use Rattle.script_runs.specs.TakenLines.{event_taking};
 ghost use Rattle.line_view.specs.Recordings as recordings;
 
 use aes_modes::Aes;
-use frame_details::{FlightMore, decrypt_octets, more_of};
-use frame_words::frame_target;
+use frame_facts::{FlightMore, decrypt_octets, more_of};
+use frame_facts::frame_target;
 use line_events::{Answer, Event, Happenings, MAX_EVENTS, StepFault};
 use line_record::{Counters, RunRecord};
 use line_script::Reason;

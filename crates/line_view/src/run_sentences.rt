@@ -9,7 +9,7 @@ use crate::recorder::{Recorder, is_drawn};
 use event_sentences::{DrawnKey, Heard, Moment, Watch, heard_flight, heard_octets};
 use line_events::{Answer, Event};
 use line_record::{Act, RecordedEvent, actor_of, is_for_another, made_by, makes_node};
-use line_stories::push_home;
+use line_record::push_home;
 use line_world::World;
 use node_rules::{Shown, ShownPeer, ShownPeers, ShownRoute, ShownRoutes};
 use plc_base::{FrameBuf, Key};

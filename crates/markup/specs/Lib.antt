@@ -2,3 +2,10 @@ pub mod Names
 pub mod ElementTexts
 pub mod HtmlReader
 pub mod Laws
+pub mod Pieces
+pub mod Markups
+pub mod PartLaws
+pub mod Style
+pub mod Frames
+pub mod FrameLaws
+pub mod Parts

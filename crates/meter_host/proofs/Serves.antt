@@ -12,7 +12,7 @@ use Rattle.plc_base.specs.Keeper.{Store}
 use Rattle.plc_base.specs.declared.keeper.BadStore.{BadStore}
 use Rattle.node_rules.specs.Memory as memory
 use Rattle.node_rules.specs.RestartStates.{memory_of}
-use Rattle.host_items.specs.Items.{Item, spelling}
+use Rattle.host_calls.specs.Items.{Item, spelling}
 use Rattle.host_calls.specs.declared.status.Status.{Status}
 use Rattle.host_calls.specs.declared.status.Status.TheVariants as status
 use Rattle.host_calls.proofs.WrittenTexts.{all, behind}
@@ -22,7 +22,7 @@ use Rattle.meter_host.specs.declared.serving.Outcome.TheVariants.{Ended, Unusabl
 use Rattle.meter_host.specs.ProgramRuns.{Phase, Runs, Closed, Turn, Answered, begins, goes_on, HasAnswered, GaveNone, ClosedAs, EndsAs, Serves}
 use Rattle.meter_host.specs.ItemCalls.{NotOpened, Answers, puts_in}
 use Rattle.meter_host.specs.ProgramRuns.{outcome_of, taken_by, Refuses, Opens, Says, IsToOpen, IsTaken, TakesIn}
-use Rattle.host_items.specs.ItemReader.{HasFailed}
+use Rattle.host_calls.specs.ItemReader.{HasFailed}
 use Rattle.host_calls.specs.Answers.{status_text, answer_text}
 use Rattle.meter_node.specs.MeterStates.{MeterState}
 

@@ -10,8 +10,8 @@ use Rattle.plc_base.specs.Streams.{SourceState, SinkState, SourceFaults, HasWrit
 use Rattle.node_rules.specs.Memory as memory
 use Rattle.node_rules.specs.RestartStates.{memory_of}
 use Rattle.meter_node.specs.MeterStates.{MeterState, node_of}
-use Rattle.host_items.specs.Items.{Item, spelling}
-use Rattle.host_items.specs.ItemReader.{IsOver, HasFailed, IsTorn, IsLong}
+use Rattle.host_calls.specs.Items.{Item, spelling}
+use Rattle.host_calls.specs.ItemReader.{IsOver, HasFailed, IsTorn, IsLong}
 use Rattle.host_calls.specs.declared.answers.Given.{Given}
 use Rattle.host_calls.specs.declared.status.Status.{Status}
 use Rattle.host_calls.specs.declared.status.Status.TheVariants as status

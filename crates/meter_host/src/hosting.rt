@@ -13,7 +13,7 @@ ghost use Rattle.meter_host.specs.ItemCalls.{Called, Answers, puts_in, NotOpened
 
 use host_calls::{Given, Status, read_call, write_answer};
 use meter_node::Meter;
-use outbox_keeper::OutboxKeeper;
+use host_calls::OutboxKeeper;
 use plc_base::{Eui, Failed, Key, Sink};
 use plc_station::{Buffers, OpenFault};
 use std::alloc::Global;

@@ -9,7 +9,7 @@ ghost use Rattle.meter_host.specs.LoadedRecords.{Follows, IsLoaded};
 
 use byteorder::{BigEndian, ByteOrder};
 use host_calls::Status;
-use outbox_keeper::OutboxKeeper;
+use host_calls::OutboxKeeper;
 use plc_base::{Keeper, Record};
 use std::alloc::{AllocError, Global};
 use std::marker::Model;

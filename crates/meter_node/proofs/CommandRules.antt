@@ -14,7 +14,7 @@ use Rattle.joining_messages.specs.declared.message.JoinBody.{JoinBody}
 use Rattle.joining_messages.specs.declared.message.JoinBody.TheVariants as body
 use Rattle.plc_base.specs.declared.address.Eui.{Eui}
 use Rattle.group_keys.specs.KeyRing.{Ring}
-use Rattle.agent_node.specs.JoiningRelay as joining_relay
+use Rattle.meter_node.specs.JoiningRelay as joining_relay
 use Rattle.node_rules.specs.Acceptance.{same_eui}
 use Rattle.node_rules.specs.declared.heard.MeterHeard.TheVariants as heard
 use Rattle.node_rules.specs.declared.refusal.Dropped.TheVariants.{BadUnit}

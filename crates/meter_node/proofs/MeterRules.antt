@@ -5,7 +5,7 @@ use Rattle.std.specs.Option.{option_map_or}
 use Rattle.joining_messages.specs.declared.message.JoinMessage.{JoinMessage}
 use Rattle.joining_messages.specs.declared.message.JoinBody.{JoinBody}
 use Rattle.joining_messages.specs.declared.message.JoinBody.TheVariants as body
-use Rattle.agent_node.specs.JoiningRelay as joining_relay
+use Rattle.meter_node.specs.JoiningRelay as joining_relay
 use Rattle.node_rules.specs.declared.heard.MeterHeard.TheVariants as heard
 use Rattle.node_rules.specs.declared.refusal.Dropped.TheVariants.{BadUnit, NoSession}
 use Rattle.node_rules.specs.Frames.{Down}

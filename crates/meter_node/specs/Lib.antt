@@ -6,3 +6,4 @@ pub mod MeterAnswers
 pub mod SendingUp
 pub mod Laws
 pub mod Ends
+pub mod JoiningRelay

@@ -17,7 +17,7 @@ ghost use Rattle.meter_node.specs.MeterAnswers as meter_answers;
 
 use crate::meter::Meter;
 use crate::session::SessionWay;
-use agent_node::goes_down;
+use crate::goes_down;
 use joining_base::{joining_command, push_down, read_message};
 use joining_messages::{JoinBody, JoinMessage};
 use node_rules::{Dropped, Heard, MeterHeard, RingRefusal, Way};

@@ -26,3 +26,12 @@ pub mod HeardOctets
 pub mod NetworkOpens
 pub mod LogPuts
 pub mod ReplyFrames
+pub mod DeferredPuts
+pub mod ListedPuts
+pub mod PutCounts
+pub mod HeardPuts
+pub mod SendPuts
+pub mod MemoryPuts
+pub mod MeterPuts
+pub mod OrderPuts
+pub mod FewPuts

@@ -28,3 +28,5 @@ pub mod StationSlots
 pub mod OctetLaws
 pub mod LogSlots
 pub mod Receives
+pub mod DeferredPuts
+pub mod FewPuts

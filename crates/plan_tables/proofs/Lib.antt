@@ -1,1 +1,2 @@
 pub mod ArrayItems
+mod Lines

@@ -3,16 +3,16 @@ use Rattle.std.specs.Prelude.{List, codes, ℕ, nat_lt, true, false, if◌then�
 use Rattle.std.specs.Str.{bytes_eq}
 use Rattle.std.specs.Option.{option_and_then}
 use Rattle.toml.specs.Data.{Data, as_str}
-use Rattle.plan_fields.specs.declared.keys.Key.TheVariants as keys
-use Rattle.plan_fields.specs.declared.fault.Wanted.TheVariants as wanted
-use Rattle.plan_fields.specs.declared.fault.WrongValue.{WrongValue}
+use Rattle.plan_tables.specs.declared.keys.Key.TheVariants as keys
+use Rattle.plan_tables.specs.declared.fault.Wanted.TheVariants as wanted
+use Rattle.plan_tables.specs.declared.fault.WrongValue.{WrongValue}
 use Rattle.plan_tables.specs.declared.air_plan.PlannedRate.{PlannedRate}
 use Rattle.plan_tables.specs.declared.air_plan.PlannedRate.TheVariants as rates
 use Rattle.plan_tables.specs.declared.air_plan.Limits.{Limits}
 use Rattle.plan_tables.specs.declared.air_plan.Waits.{Waits}
 use Rattle.plan_tables.specs.declared.air_plan.Choices.{Choices}
 use Rattle.plan_tables.specs.declared.air_plan.AirPlan.{AirPlan}
-use Rattle.plan_fields.specs.Faults.{TableAt, ◌>>=◌, wrong_at, value_at, number_at, flag_at}
+use Rattle.plan_tables.specs.Faults.{TableAt, ◌>>=◌, wrong_at, value_at, number_at, flag_at}
 
 abbrev pub rate_named : List ℕ → Option PlannedRate
 rate_named word =

@@ -3,11 +3,11 @@ use Rattle.std.specs.Prelude.{ℕ, ◌==◌, List, [], ◌∷◌, ◌++◌, code
 use Rattle.std.specs.Str.{bytes_eq}
 use Rattle.std.specs.Option.{option_and_then}
 use Rattle.toml.specs.Data.{Data, as_str, as_array}
-use Rattle.plan_fields.specs.declared.keys.Key.{Key}
-use Rattle.plan_fields.specs.declared.keys.Key.TheVariants as keys
-use Rattle.plan_fields.specs.declared.fault.Wanted.{Wanted}
-use Rattle.plan_fields.specs.declared.fault.Wanted.TheVariants as wanted
-use Rattle.plan_fields.specs.declared.fault.WrongValue.{WrongValue}
+use Rattle.plan_tables.specs.declared.keys.Key.{Key}
+use Rattle.plan_tables.specs.declared.keys.Key.TheVariants as keys
+use Rattle.plan_tables.specs.declared.fault.Wanted.{Wanted}
+use Rattle.plan_tables.specs.declared.fault.Wanted.TheVariants as wanted
+use Rattle.plan_tables.specs.declared.fault.WrongValue.{WrongValue}
 use Rattle.plan_tables.specs.declared.incidents.Leaves.{Leaves}
 use Rattle.plan_tables.specs.declared.incidents.Leaves.TheVariants as leaves
 use Rattle.plan_tables.specs.declared.incidents.WhatKind.{WhatKind}
@@ -19,8 +19,8 @@ use Rattle.plan_tables.specs.declared.incidents.Incident.{Incident}
 use Rattle.plan_tables.specs.declared.incidents.NodesOf.{NodesOf}
 use Rattle.plan_tables.specs.declared.incidents.Outline.{Outline}
 use Rattle.plan_tables.specs.declared.places.PlacePlan.{PlacePlan}
-use Rattle.plan_fields.specs.Values.{number_up_to, number_from_one_to, seconds_in}
-use Rattle.plan_fields.specs.Faults.{TableAt, ◌>>=◌, checked_at, get_at, wrong_at, value_at, number_at, positive_at, seconds_at, chance_at}
+use Rattle.plan_tables.specs.Values.{number_up_to, number_from_one_to, seconds_in}
+use Rattle.plan_tables.specs.Faults.{TableAt, ◌>>=◌, checked_at, get_at, wrong_at, value_at, number_at, positive_at, seconds_at, chance_at}
 use Rattle.plan_tables.specs.Links.{listed}
 use Rattle.plan_tables.specs.Places.{may_hear}
 

@@ -3,3 +3,9 @@ pub mod Links
 pub mod Places
 pub mod AirPlans
 pub mod Incidents
+pub mod Keys
+pub mod Values
+pub mod Faults
+pub mod Members
+pub mod TextPlaces
+pub mod Words

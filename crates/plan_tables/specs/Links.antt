@@ -5,11 +5,11 @@ use Rattle.toml.specs.Data.{Data, Items, no_items, item, at, as_array}
 use Rattle.line_place.specs.declared.link.Costs.{Costs}
 use Rattle.line_place.specs.declared.matrix.MeasuredLink.{MeasuredLink}
 use Rattle.line_place.specs.Rows.{cost_at}
-use Rattle.plan_fields.specs.declared.keys.Key.TheVariants as keys
-use Rattle.plan_fields.specs.declared.fault.Wanted.TheVariants as wanted
-use Rattle.plan_fields.specs.declared.fault.WrongValue.{WrongValue}
-use Rattle.plan_fields.specs.Values.{◌>>=◌, number_up_to, number_from_one_to, chance_in}
-use Rattle.plan_fields.specs.Faults.{TableAt, checked_at, get_at}
+use Rattle.plan_tables.specs.declared.keys.Key.TheVariants as keys
+use Rattle.plan_tables.specs.declared.fault.Wanted.TheVariants as wanted
+use Rattle.plan_tables.specs.declared.fault.WrongValue.{WrongValue}
+use Rattle.plan_tables.specs.Values.{◌>>=◌, number_up_to, number_from_one_to, chance_in}
+use Rattle.plan_tables.specs.Faults.{TableAt, checked_at, get_at}
 
 -- the number of a node at a place of a row
 unfoldable pub node_in : ℕ → Data → Option ℕ

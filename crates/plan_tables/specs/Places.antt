@@ -6,16 +6,16 @@ use Rattle.toml.specs.Data.{Data, as_str}
 use Rattle.line_place.specs.declared.link.Costs.{Costs}
 use Rattle.line_place.specs.declared.link.Costs.TheVariants.{ByLoss, Same}
 use Rattle.line_place.specs.declared.link.Losses.{Losses}
-use Rattle.plan_fields.specs.declared.keys.Key.TheVariants as keys
-use Rattle.plan_fields.specs.declared.fault.Wanted.TheVariants as wanted
-use Rattle.plan_fields.specs.declared.fault.WrongValue.{WrongValue}
+use Rattle.plan_tables.specs.declared.keys.Key.TheVariants as keys
+use Rattle.plan_tables.specs.declared.fault.Wanted.TheVariants as wanted
+use Rattle.plan_tables.specs.declared.fault.WrongValue.{WrongValue}
 use Rattle.plan_tables.specs.declared.places.PlaceKind.{PlaceKind}
 use Rattle.plan_tables.specs.declared.places.PlaceKind.TheVariants as kinds
 use Rattle.plan_tables.specs.declared.places.Kind.{Kind}
 use Rattle.plan_tables.specs.declared.places.Kind.TheVariants.{InStreet, InGrid, InTower, Scattered, Measured}
 use Rattle.plan_tables.specs.declared.places.PlacePlan.{PlacePlan}
-use Rattle.plan_fields.specs.Values.{number_from_one_to}
-use Rattle.plan_fields.specs.Faults.{TableAt, ◌>>=◌, wrong_at, value_at, positive_at, chance_at}
+use Rattle.plan_tables.specs.Values.{number_from_one_to}
+use Rattle.plan_tables.specs.Faults.{TableAt, ◌>>=◌, wrong_at, value_at, positive_at, chance_at}
 use Rattle.line_place.specs.Distances.{street_far, grid_far, tower_far}
 use Rattle.plan_tables.specs.Links.{matrix_at, farthest, has_link}
 

@@ -3,9 +3,9 @@ use Rattle.std.specs.Prelude.{ℕ, List, codes, Bool, true, false, if◌then◌e
 use Rattle.std.specs.Str.{bytes_eq}
 use Rattle.std.specs.Option.{option_and_then}
 use Rattle.toml.specs.Data.{Data, as_str}
-use Rattle.plan_fields.specs.declared.keys.Key.TheVariants as keys
-use Rattle.plan_fields.specs.declared.fault.Wanted.TheVariants as wanted
-use Rattle.plan_fields.specs.declared.fault.WrongValue.{WrongValue}
+use Rattle.plan_tables.specs.declared.keys.Key.TheVariants as keys
+use Rattle.plan_tables.specs.declared.fault.Wanted.TheVariants as wanted
+use Rattle.plan_tables.specs.declared.fault.WrongValue.{WrongValue}
 use Rattle.plan_tables.specs.declared.tables.Joining.{Joining}
 use Rattle.plan_tables.specs.declared.tables.Way.{Way}
 use Rattle.plan_tables.specs.declared.tables.Way.TheVariants as ways
@@ -17,7 +17,7 @@ use Rattle.plan_tables.specs.declared.tables.Care.{Care}
 use Rattle.plan_tables.specs.declared.tables.Times.{Times}
 use Rattle.plan_tables.specs.declared.tables.Content.{Content}
 use Rattle.plan_tables.specs.declared.tables.Retries.{Retries}
-use Rattle.plan_fields.specs.Faults.{TableAt, ◌>>=◌, value_at, number_at, seconds_at, flag_at}
+use Rattle.plan_tables.specs.Faults.{TableAt, ◌>>=◌, value_at, number_at, seconds_at, flag_at}
 
 -- the most of anything that is counted
 abbrev pub most : ℕ

@@ -1,10 +1,10 @@
 //! What is set of the air.
 ghost use Rattle.std.specs.Prelude.{◌≡◌};
 ghost use Rattle.toml.specs.View.{view};
-ghost use Rattle.plan_fields.specs.Members.{table_of};
+ghost use Rattle.plan_tables.specs.Members.{table_of};
 ghost use Rattle.plan_tables.specs.AirPlans.{rate_named, rate_in, rate_at, limits_at, waits_at, choices_at, air_at};
 
-use plan_fields::{Fields, Key, Wanted, WrongValue};
+use crate::{Fields, Key, Wanted, WrongValue};
 use toml::Value;
 
 /// How bits are sent.

@@ -1,14 +1,14 @@
 //! What happens to the line: failures, the owner's orders, attackers.
 ghost use Rattle.std.specs.Prelude.{◌≡◌, IfOk, [], map};
 ghost use Rattle.toml.specs.View.{view};
-ghost use Rattle.plan_fields.specs.Members.{table_of};
+ghost use Rattle.plan_tables.specs.Members.{table_of};
 ghost use Rattle.plan_tables.specs.Incidents.{what_named, what_in, what_at, leaves_named, leaves_in, leaves_at};
 ghost use Rattle.plan_tables.specs.Incidents.{torn_at, noise_at, rekey_at, replay_at, delay_at, what_of};
 ghost use Rattle.plan_tables.specs.Incidents.{nodes_of, wanted_one, wanted_list, node_of, numbers_from, one_node, some_nodes, nodes_at, time_at};
 ghost use Rattle.plan_tables.specs.Incidents.{link_wanted, nodes_wanted, drawn_at, outline_at, incident_at};
 
 use crate::places::PlacePlan;
-use plan_fields::{Fields, Key, Wanted, WrongValue, number_from_one_to, number_up_to, seconds_in};
+use crate::{Fields, Key, Wanted, WrongValue, number_from_one_to, number_up_to, seconds_in};
 use std::alloc::{AllocError, Global};
 use std::marker::Model;
 use toml::Value;

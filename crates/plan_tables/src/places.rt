@@ -1,13 +1,13 @@
 //! Who hears whom, as the description says it.
 ghost use Rattle.std.specs.Prelude.{◌≡◌, ◌<◌, ◌≤◌, IfOk};
 ghost use Rattle.toml.specs.View.{view};
-ghost use Rattle.plan_fields.specs.Members.{table_of};
+ghost use Rattle.plan_tables.specs.Members.{table_of};
 ghost use Rattle.plan_tables.specs.Places.{cost_named, cost_in, cost_at, kind_named, kind_in, kind_at, middle_named, middle_in, middle_at, meters_at, reach_at};
 ghost use Rattle.plan_tables.specs.Places.{street_at, grid_at, tower_at, scatter_at, losses_at, place_at, meters_of, kind_of, may_reach, may_hear};
 
 use crate::links::{MeasuredLinks, matrix_at};
 use line_place::{Costs, Field, Grid, Losses, Street, Tower};
-use plan_fields::{Fields, Key, Wanted, WrongValue, number_from_one_to};
+use crate::{Fields, Key, Wanted, WrongValue, number_from_one_to};
 use std::alloc::{AllocError, Global};
 use toml::Value;
 

@@ -1,11 +1,11 @@
 //! What nodes and their owner do: joining, readings, changes of the key, care.
 ghost use Rattle.std.specs.Prelude.{◌≡◌};
 ghost use Rattle.toml.specs.View.{view};
-ghost use Rattle.plan_fields.specs.Members.{table_of};
+ghost use Rattle.plan_tables.specs.Members.{table_of};
 ghost use Rattle.plan_tables.specs.Tables.{how_named, how_in, how_at, joining_at, way_named, way_in, way_at, order_named, order_in, order_at};
 ghost use Rattle.plan_tables.specs.Tables.{times_at, content_at, readings_at, retries_at, rotation_at, care_at};
 
-use plan_fields::{Fields, Key, Wanted, WrongValue};
+use crate::{Fields, Key, Wanted, WrongValue};
 use toml::Value;
 
 /// How meters join.

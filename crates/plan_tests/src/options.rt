@@ -1,6 +1,6 @@
 //! Descriptions with options.
 
-use plan_options::{are_options, read_plan};
+use line_plan::{are_options, read_plan};
 use plc_base::MemSource;
 use std::alloc::{AllocError, Global};
 use std::test::Fail;

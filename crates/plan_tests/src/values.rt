@@ -1,6 +1,6 @@
 //! Times and per cent in texts.
 
-use plan_fields::{hundredths_of, seconds_of};
+use plan_tables::{hundredths_of, seconds_of};
 
 #[test]
 fn has_the_times_of_texts(rt: HostRuntime) {

@@ -1,6 +1,6 @@
 use crate::stories::small;
 use line_record::{Course, Fate};
-use node_pasts::Pasts;
+use line_record::Pasts;
 use run_charts::{ChartRun, push_chart};
 use std::alloc::{AllocError, Global};
 use std::test::Fail;

@@ -1,9 +1,9 @@
 //! Small runs, with links, hops and places worked out by hand.
 use crate::stories::event;
-use frame_words::{FrameTarget, Gist, PayloadKind};
+use frame_facts::{FrameTarget, Gist, PayloadKind};
 use line_events::Answer;
 use line_record::{Act, RecordedEvent, RecordedFlight, RunRecord};
-use node_pasts::Pasts;
+use line_record::Pasts;
 use node_rules::{Shown, ShownPeers, ShownRoute, ShownRoutes};
 use plc_base::Short;
 use run_maps::{Found, Heard, Link, links_of, push_map, search_of};

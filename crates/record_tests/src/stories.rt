@@ -1,10 +1,10 @@
-use frame_words::{FrameTarget, Gist, PayloadKind};
+use frame_facts::{FrameTarget, Gist, PayloadKind};
 use line_events::Answer;
 use line_record::{
     Act, Fate, RecordedEvent, RecordedFlight, RunRecord, StoryKind, Verdict, ends_of, flight_come,
     verdict_of,
 };
-use line_stories::{RunStories, stories_of};
+use line_record::{RunStories, stories_of};
 use plc_base::Eui;
 use std::alloc::{AllocError, Global};
 use std::test::Fail;

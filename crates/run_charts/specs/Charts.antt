@@ -2,8 +2,8 @@
 use Rattle.std.specs.Prelude.{ℕ, ◌+◌, ◌-◌, ◌==◌, Bool, true, false, nat_lt, List, [], ◌∷◌, codes, length, position, Option, None, Some, if◌then◌else◌}
 use Rattle.markup.specs.declared.names.Element.TheVariants as E
 use Rattle.markup.specs.declared.names.Attribute.TheVariants as A
-use Rattle.markup_parts.specs.Markups.{Markup, Nothing, Words, Inside, Both, with_text, with_number}
-use Rattle.frame_words.specs.Kinds.{kind_word}
+use Rattle.markup.specs.Markups.{Markup, Nothing, Words, Inside, Both, with_text, with_number}
+use Rattle.frame_facts.specs.Kinds.{kind_word}
 use Rattle.sentence_parts.specs.Parts.{node_text}
 use Rattle.line_record.specs.declared.act.Act.{Act}
 use Rattle.line_record.specs.declared.act.Act.TheVariants as acts

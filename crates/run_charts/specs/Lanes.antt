@@ -4,11 +4,11 @@ use Rattle.std.specs.Prelude.{codes, length, slice_get, Option, None, Some, ifâ—
 use Rattle.std.specs.Fmt.{decimal}
 use Rattle.markup.specs.declared.names.Element.TheVariants as E
 use Rattle.markup.specs.declared.names.Attribute.TheVariants as A
-use Rattle.markup_parts.specs.Markups.{Markup, Nothing, Words, Inside, Both, with_text, with_number}
-use Rattle.node_pasts.specs.declared.mode.Mode.{Mode}
-use Rattle.node_pasts.specs.declared.mode.Mode.TheVariants as modes
-use Rattle.node_pasts.specs.declared.past.Change.{Change}
-use Rattle.node_pasts.specs.Pasts.{changes_at}
+use Rattle.markup.specs.Markups.{Markup, Nothing, Words, Inside, Both, with_text, with_number}
+use Rattle.line_record.specs.declared.mode.Mode.{Mode}
+use Rattle.line_record.specs.declared.mode.Mode.TheVariants as modes
+use Rattle.line_record.specs.declared.past.Change.{Change}
+use Rattle.line_record.specs.Pasts.{changes_at}
 use Rattle.sentence_parts.specs.declared.part.Part.TheVariants as part
 use Rattle.sentence_parts.specs.Parts.{parts_text}
 use Rattle.line_record.specs.declared.recorded.RecordedEvent.{RecordedEvent}

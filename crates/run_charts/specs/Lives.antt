@@ -1,10 +1,10 @@
 -- The lifelines of a chart: what a node is, row by row.
 use Rattle.std.specs.Prelude.{ℕ, ◌+◌, ◌-◌, nat_le, Bool, true, false, List, [], ◌∷◌, ◌++◌, codes, length, slice_get, Option, None, Some, if◌then◌else◌}
-use Rattle.markup_parts.specs.Markups.{Markup, Nothing, Both}
-use Rattle.node_pasts.specs.declared.mode.Mode.{Mode}
-use Rattle.node_pasts.specs.declared.mode.Mode.TheVariants as modes
-use Rattle.node_pasts.specs.declared.past.Change.{Change}
-use Rattle.node_pasts.specs.Pasts.{changes_at, is_same}
+use Rattle.markup.specs.Markups.{Markup, Nothing, Both}
+use Rattle.line_record.specs.declared.mode.Mode.{Mode}
+use Rattle.line_record.specs.declared.mode.Mode.TheVariants as modes
+use Rattle.line_record.specs.declared.past.Change.{Change}
+use Rattle.line_record.specs.Pasts.{changes_at, is_same}
 use Rattle.run_charts.specs.declared.life.Stretch.{Stretch}
 use Rattle.run_charts.specs.declared.row.Row.{Row}
 use Rattle.run_charts.specs.Runs.{Run}

@@ -6,7 +6,7 @@ use Rattle.line_record.specs.declared.course.Course.{Course}
 use Rattle.line_record.specs.declared.course.Fate.{Fate}
 use Rattle.line_record.specs.declared.course.Fate.TheVariants as fates
 use Rattle.line_record.specs.RunRecords.{numbered}
-use Rattle.node_pasts.specs.Pasts.{NodePast}
+use Rattle.line_record.specs.Pasts.{NodePast}
 
 pub record Run : Type 0 where
   pub events : List RecordedEvent

@@ -1,6 +1,6 @@
 //! A chart.
 ghost use Rattle.std.specs.Prelude.{◌≡◌, ◌<◌, ◌^◌, ◌++◌, IfOk, IfSome, OnOk, position, string_bytes};
-ghost use Rattle.markup_parts.specs.Markups.{markup_text};
+ghost use Rattle.markup.specs.Markups.{markup_text};
 ghost use Rattle.run_charts.specs.Charts as charts;
 
 use crate::columns::doer_of;
@@ -11,10 +11,10 @@ use crate::drawing::{
 use crate::outcome::{Outcome, has_cross, outcome_of};
 use crate::row::{Row, flight_heard, line_after, members, number_at};
 use crate::run::ChartRun;
-use frame_words::kind_word;
+use frame_facts::kind_word;
 use line_record::{Act, RecordedEvent, RecordedFlight, actor_of};
 use markup::{Attribute, Element};
-use markup_parts::{end, given, given_number, open, push_pieces, start, text};
+use markup::{end, given, given_number, open, push_pieces, start, text};
 use sentence_parts::{node, sentence};
 use std::alloc::{AllocError, Global};
 

@@ -1,12 +1,12 @@
 //! What is drawn of a row: lines, arrows, dots. All numbers are pixels.
 ghost use Rattle.std.specs.Prelude.{◌≡◌, ◌<◌, ◌^◌, ◌++◌, IfOk, OnOk, string_bytes};
-ghost use Rattle.markup_parts.specs.Markups.{markup_text};
+ghost use Rattle.markup.specs.Markups.{markup_text};
 ghost use Rattle.sentence_parts.specs.Parts.{parts_text};
 ghost use Rattle.run_charts.specs.Drawings as drawings;
 
 use crate::outcome::{Outcome, fill_class, line_class};
 use markup::{Attribute, Element};
-use markup_parts::{count, end, given, given_number, leaf, open, push_pieces, start, text};
+use markup::{count, end, given, given_number, leaf, open, push_pieces, start, text};
 use sentence_parts::{Part, number, push_parts, words};
 use std::alloc::{AllocError, Global};
 

@@ -1,6 +1,6 @@
 //! The drawing of the lanes.
 ghost use Rattle.std.specs.Prelude.{◌≡◌, ◌<◌, ◌≤◌, ◌^◌, ◌++◌, IfOk, OnOk, string_bytes};
-ghost use Rattle.markup_parts.specs.Markups.{markup_text};
+ghost use Rattle.markup.specs.Markups.{markup_text};
 ghost use Rattle.run_charts.specs.Lanes as spec_lanes;
 
 use crate::cells::{CELLS, LANES, cell_of, rank_of, ranks_of};
@@ -10,8 +10,8 @@ use crate::outcome::Outcome;
 use crate::run::ChartRun;
 use line_record::RecordedEvent;
 use markup::{Attribute, Element};
-use markup_parts::{count, end, given, given_number, open, push_pieces, start, text};
-use node_pasts::{Change, Mode};
+use markup::{count, end, given, given_number, open, push_pieces, start, text};
+use line_record::{Change, Mode};
 use sentence_parts::{number, push_parts, sentence, words};
 use std::alloc::{AllocError, Global};
 

@@ -1,12 +1,12 @@
 //! The lifelines of a chart: what a node is, row by row.
 ghost use Rattle.std.specs.Prelude.{◌≡◌, ◌++◌, IfOk, None, OnOk, Some};
-ghost use Rattle.markup_parts.specs.Markups.{markup_text};
+ghost use Rattle.markup.specs.Markups.{markup_text};
 ghost use Rattle.run_charts.specs.Lives as lives;
 
 use crate::drawing::{line_y, push_lifeline};
 use crate::row::{Row, number_at};
 use crate::run::ChartRun;
-use node_pasts::{Change, Mode, is_same};
+use line_record::{Change, Mode, is_same};
 use std::alloc::{AllocError, Global};
 
 /// From this height on, a node is this.

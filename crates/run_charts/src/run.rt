@@ -4,7 +4,7 @@ ghost use Rattle.line_record.specs.RunRecords.{numbered};
 ghost use Rattle.run_charts.specs.Runs as spec_runs;
 
 use line_record::{Course, Fate, RecordedEvent, RecordedFlight, RunRecord};
-use node_pasts::Pasts;
+use line_record::Pasts;
 use std::alloc::Global;
 use std::marker::Model;
 

@@ -2,7 +2,7 @@
 ghost use Rattle.std.specs.Prelude.{◌≡◌, ◌<◌, ◌^◌, ◌++◌, IfOk, OnOk, string_bytes};
 ghost use Rattle.markup.specs.ElementTexts.{end_tag};
 ghost use Rattle.markup.specs.declared.names.Element.TheVariants as E;
-ghost use Rattle.markup_parts.specs.Markups.{markup_text};
+ghost use Rattle.markup.specs.Markups.{markup_text};
 ghost use Rattle.run_charts.specs.RowSentences as sayings;
 
 use crate::doing::doing_text;
@@ -12,7 +12,7 @@ use crate::run::{ChartRun, is_missed};
 use line_record::{Act, Course, Fate, RecordedEvent, is_setup, made_by};
 use line_script::answer_word;
 use markup::{Attribute, Element};
-use markup_parts::{count, end, given, given_number, open, push_pieces, start, text};
+use markup::{count, end, given, given_number, open, push_pieces, start, text};
 use sentence_parts::{number, sentence, words};
 use std::alloc::{AllocError, Global};
 

@@ -2,10 +2,10 @@
 use Rattle.std.specs.Prelude.{ℕ, ◌+◌, min, zero, suc, Bool, true, false, List, [], ◌∷◌, codes, slice_get, Option, None, Some, if◌then◌else◌}
 use Rattle.markup.specs.declared.names.Element.TheVariants as E
 use Rattle.markup.specs.declared.names.Attribute.TheVariants as A
-use Rattle.markup_parts.specs.Markups.{Markup, Nothing, Leaf, Inside, Both, with_text, with_number}
+use Rattle.markup.specs.Markups.{Markup, Nothing, Leaf, Inside, Both, with_text, with_number}
 use Rattle.sentence_parts.specs.declared.part.Part.TheVariants as part
 use Rattle.sentence_parts.specs.Parts.{parts_text}
-use Rattle.node_pasts.specs.Pasts.{NodePast, next_hop_at}
+use Rattle.line_record.specs.Pasts.{NodePast, next_hop_at}
 use Rattle.run_maps.specs.declared.layout.Spot.{Spot}
 use Rattle.run_maps.specs.Layouts.{Layout, is_tree, radius_of, spot}
 use Rattle.run_maps.specs.Ties.{straight, titled}

@@ -3,7 +3,7 @@ use Rattle.std.specs.Prelude.{ℕ, ◌+◌, ◌/◌, min, nat_lt, nat_le, Bool, 
 use Rattle.std.specs.Fmt.{decimal}
 use Rattle.markup.specs.declared.names.Element.TheVariants as E
 use Rattle.markup.specs.declared.names.Attribute.TheVariants as A
-use Rattle.markup_parts.specs.Markups.{Markup, Nothing, Words, Inside, Both, with_text, with_number}
+use Rattle.markup.specs.Markups.{Markup, Nothing, Words, Inside, Both, with_text, with_number}
 use Rattle.sentence_parts.specs.declared.part.Part.TheVariants as part
 use Rattle.sentence_parts.specs.Parts.{parts_text}
 use Rattle.run_maps.specs.declared.links.Heard.{Heard}

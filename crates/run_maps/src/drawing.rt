@@ -1,12 +1,12 @@
 //! Lines, circles and words.
 ghost use Rattle.std.specs.Prelude.{◌≡◌, ◌++◌, IfOk, OnOk, string_bytes};
-ghost use Rattle.markup_parts.specs.Markups.{markup_text};
+ghost use Rattle.markup.specs.Markups.{markup_text};
 ghost use Rattle.run_maps.specs.Maps as maps;
 ghost use Rattle.run_maps.specs.Ties as spec_ties;
 
 use crate::layout::Spot;
 use markup::{Attribute, Element};
-use markup_parts::{count, end, given, given_number, leaf, open, push_pieces, start, text};
+use markup::{count, end, given, given_number, leaf, open, push_pieces, start, text};
 use sentence_parts::{number, sentence, words};
 use std::alloc::{AllocError, Global};
 

@@ -1,6 +1,6 @@
 //! The whole map.
 ghost use Rattle.std.specs.Prelude.{◌≡◌, ◌++◌, IfOk, OnOk, string_bytes};
-ghost use Rattle.markup_parts.specs.Markups.{markup_text};
+ghost use Rattle.markup.specs.Markups.{markup_text};
 ghost use Rattle.run_maps.specs.Maps as maps;
 
 use crate::drawing::{push_circle, push_number_in, push_title};
@@ -11,8 +11,8 @@ use crate::search::search_of;
 use crate::tie::{PlacedTie, has_costs, placed_ties, push_costs_if, push_lines};
 use line_record::RunRecord;
 use markup::{Attribute, Element};
-use markup_parts::{end, given, given_number, open, push_pieces, start};
-use node_pasts::{Change, Mode, Pasts};
+use markup::{end, given, given_number, open, push_pieces, start};
+use line_record::{Change, Mode, Pasts};
 use sentence_parts::{number, sentence, words};
 use std::alloc::{AllocError, Global};
 

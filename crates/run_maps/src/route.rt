@@ -1,13 +1,13 @@
 //! What is drawn of the routes to the coordinator.
 ghost use Rattle.std.specs.Prelude.{◌≡◌, ◌++◌, IfOk, OnOk, string_bytes};
-ghost use Rattle.markup_parts.specs.Markups.{markup_text};
+ghost use Rattle.markup.specs.Markups.{markup_text};
 ghost use Rattle.run_maps.specs.Routes as spec_routes;
 
 use crate::drawing::{push_title, straight};
 use crate::layout::{Layout, Spot, is_tree};
 use markup::{Attribute, Element};
-use markup_parts::{end, given, given_number, leaf, open, push_pieces, start};
-use node_pasts::Pasts;
+use markup::{end, given, given_number, leaf, open, push_pieces, start};
+use line_record::Pasts;
 use sentence_parts::{node, sentence, words};
 use std::alloc::{AllocError, Global};
 

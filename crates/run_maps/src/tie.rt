@@ -1,6 +1,6 @@
 //! What is drawn of the links.
 ghost use Rattle.std.specs.Prelude.{◌≡◌, ◌++◌, IfOk, OnOk, string_bytes};
-ghost use Rattle.markup_parts.specs.Markups.{markup_text};
+ghost use Rattle.markup.specs.Markups.{markup_text};
 ghost use Rattle.run_maps.specs.Ties as spec_ties;
 
 use crate::drawing::{push_cost, push_titled_path, straight};

@@ -1,9 +1,9 @@
 -- A page closes all that it opens.
 use Rattle.std.proofs.Common.{List, ℕ, codes, refl}
-use Rattle.markup_parts.specs.Markups.{markup_text}
-use Rattle.markup_parts.proofs.Markups.{markups_are_content}
-use Rattle.page_frame.specs.Frames.{html}
-use Rattle.page_frame.proofs.Pages.{pages_nest}
+use Rattle.markup.specs.Markups.{markup_text}
+use Rattle.markup.proofs.Markups.{markups_are_content}
+use Rattle.markup.specs.Frames.{html}
+use Rattle.markup.proofs.Pages.{pages_nest}
 use Rattle.run_charts.specs.Runs.{Run}
 use Rattle.run_pages.specs.Pages.{IsPage, Sheet, content, or_words, page}
 

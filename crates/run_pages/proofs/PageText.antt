@@ -1,7 +1,7 @@
 -- A page is its start, its content and its end, and a part of it what one call after the other appends.
 use Rattle.std.proofs.Common.{◌≡◌, ℕ, List, ◌++◌, OnOk, Result, ap, subst, append_assoc, ◌∙◌}
-use Rattle.page_frame.specs.Frames.{page_end, page_start, page_text}
-use Rattle.page_frame.proofs.Pages.{ends_meet}
+use Rattle.markup.specs.Frames.{page_end, page_start, page_text}
+use Rattle.markup.proofs.Pages.{ends_meet}
 
 whole : (o0 o1 o2 title content : List ℕ) → o1 ≡ o0 ++ page_start title → o2 ≡ o1 ++ content → o2 ++ page_end ≡ o0 ++ page_text title content
 whole o0 o1 o2 title content starts fills =

@@ -3,19 +3,19 @@ use Rattle.std.specs.Prelude.{ℕ, ◌+◌, ◌-◌, ◌||◌, nat_lt, Bool, tru
 use Rattle.std.specs.Prelude.{Option, None, Some, if◌then◌else◌}
 use Rattle.std.specs.Fmt.{decimal}
 use Rattle.hex.specs.Hex.{encode_lower}
-use Rattle.frame_words.specs.Words.{short_word}
+use Rattle.frame_facts.specs.Words.{short_word}
 use Rattle.plc_base.specs.declared.address.Eui.{Eui}
 use Rattle.markup.specs.declared.names.Element.TheVariants as E
 use Rattle.markup.specs.declared.names.Attribute.TheVariants as A
-use Rattle.markup_parts.specs.Markups.{Markup, Nothing, Words, Inside, Both, with_text}
-use Rattle.page_parts.specs.Parts.{heading}
+use Rattle.markup.specs.Markups.{Markup, Nothing, Words, Inside, Both, with_text}
+use Rattle.markup.specs.Parts.{heading}
 use Rattle.line_record.specs.declared.kind.StoryKind.TheVariants as kinds
 use Rattle.line_record.specs.declared.story.Story.{Story}
 use Rattle.line_record.specs.Verdicts.{is_good}
-use Rattle.node_pasts.specs.declared.mode.Mode.{Mode}
-use Rattle.node_pasts.specs.declared.mode.Mode.TheVariants as modes
-use Rattle.node_pasts.specs.declared.past.Change.{Change}
-use Rattle.node_pasts.specs.Pasts.{NodePast, changes_at}
+use Rattle.line_record.specs.declared.mode.Mode.{Mode}
+use Rattle.line_record.specs.declared.mode.Mode.TheVariants as modes
+use Rattle.line_record.specs.declared.past.Change.{Change}
+use Rattle.line_record.specs.Pasts.{NodePast, changes_at}
 use Rattle.run_charts.specs.Runs.{Run}
 use Rattle.run_pages.specs.Counts.{is_kind, is_yes}
 use Rattle.run_pages.specs.NodeCounts.{addresses_added, datagram_added, events_added, no_count}

@@ -3,10 +3,10 @@ use Rattle.std.specs.Prelude.{◌≡◌, ℕ, ◌+◌, ◌-◌, ◌==◌, ◌&&�
 use Rattle.std.specs.Prelude.{codes, length, position, slice_get, Option, None, Some, if◌then◌else◌}
 use Rattle.markup.specs.declared.names.Element.TheVariants as E
 use Rattle.markup.specs.declared.names.Attribute.TheVariants as A
-use Rattle.markup_parts.specs.Markups.{Markup, Nothing, Words, Inside, Both, markup_text, with_text, with_number}
+use Rattle.markup.specs.Markups.{Markup, Nothing, Words, Inside, Both, markup_text, with_text, with_number}
 use Rattle.markup.specs.HtmlReader.{IsContent}
-use Rattle.page_frame.specs.Frames.{doctype, page_text}
-use Rattle.page_parts.specs.Parts.{band, event_numbers, fault_tile, heading, keys, map_keys, name, not_drawn, share, span, tile, totals}
+use Rattle.markup.specs.Frames.{doctype, page_text}
+use Rattle.markup.specs.Parts.{band, event_numbers, fault_tile, heading, keys, map_keys, name, not_drawn, share, span, tile, totals}
 use Rattle.line_record.specs.declared.kind.StoryKind.{StoryKind}
 use Rattle.line_record.specs.declared.kind.StoryKind.TheVariants as kinds
 use Rattle.line_record.specs.declared.course.Course.{Course}

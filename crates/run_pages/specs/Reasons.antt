@@ -3,8 +3,8 @@ use Rattle.std.specs.Prelude.{ℕ, ◌-◌, ◌==◌, List, [], ◌∷◌, codes
 use Rattle.std.specs.Fmt.{decimal}
 use Rattle.markup.specs.declared.names.Element.TheVariants as E
 use Rattle.markup.specs.declared.names.Attribute.TheVariants as A
-use Rattle.markup_parts.specs.Markups.{Markup, Nothing, Words, Inside, Both, with_text}
-use Rattle.page_parts.specs.Parts.{heading, span, subheading}
+use Rattle.markup.specs.Markups.{Markup, Nothing, Words, Inside, Both, with_text}
+use Rattle.markup.specs.Parts.{heading, span, subheading}
 use Rattle.sentence_parts.specs.declared.part.Part.TheVariants as part
 use Rattle.sentence_parts.specs.Parts.{parts_text}
 use Rattle.story_accounts.specs.declared.section.Section.{Section}

@@ -1,16 +1,16 @@
 //! The table of the nodes of a run: what each is at the end, and what is counted of it.
 ghost use Rattle.std.specs.Prelude.{◌≡◌, ◌++◌, ◌<◌, IfOk, IfSome, OnOk, length, position, slice_get};
-ghost use Rattle.markup_parts.specs.Markups.{markup_text};
+ghost use Rattle.markup.specs.Markups.{markup_text};
 ghost use Rattle.run_pages.specs.NodeTables as tables;
 
 use crate::counting::{is_kind, is_yes};
 use crate::node_counts::{NodeCount, add_addresses, add_datagram, add_events, no_count};
-use frame_words::push_short;
+use frame_facts::push_short;
 use line_record::{Story, StoryKind, is_good};
 use markup::{Attribute, Element};
-use markup_parts::{count, end, given, open, push_pieces, start, text};
-use node_pasts::{Change, Mode, Pasts};
-use page_parts::push_heading;
+use markup::{count, end, given, open, push_pieces, start, text};
+use line_record::{Change, Mode, Pasts};
+use markup::push_heading;
 use plc_base::Eui;
 use run_charts::ChartRun;
 use std::alloc::{AllocError, Global};

@@ -1,6 +1,6 @@
 //! The parts of a page that its charts are not.
 ghost use Rattle.std.specs.Prelude.{◌≡◌, ◌++◌, ◌<◌, IfOk, IfSome, OnOk, length, position, string_bytes};
-ghost use Rattle.markup_parts.specs.Markups.{markup_text};
+ghost use Rattle.markup.specs.Markups.{markup_text};
 ghost use Rattle.run_pages.specs.Pages as pages;
 
 use crate::counting::{count_if, is_kind, is_yes};
@@ -8,9 +8,9 @@ use crate::node_table::push_nodes_table;
 use crate::reasons::push_reasons;
 use line_record::{Course, RecordedEvent, Story, StoryKind, is_good, is_refused};
 use markup::{Attribute, Element};
-use markup_parts::{end, given, given_number, open, push_pieces, start};
-use page_frame::{push_page_end, push_page_start};
-use page_parts::{
+use markup::{end, given, given_number, open, push_pieces, start};
+use markup::{push_page_end, push_page_start};
+use markup::{
     push_band, push_event_numbers, push_fault_tile, push_heading, push_keys, push_map_keys,
     push_name, push_not_drawn, push_share, push_span, push_tile, push_totals,
 };

@@ -1,11 +1,11 @@
 //! Why stories failed: the reasons that `explain` counts, with links to the first stories of each.
 ghost use Rattle.std.specs.Prelude.{◌≡◌, ◌++◌, IfOk, OnOk, string_bytes};
-ghost use Rattle.markup_parts.specs.Markups.{markup_text};
+ghost use Rattle.markup.specs.Markups.{markup_text};
 ghost use Rattle.run_pages.specs.Reasons as spec_reasons;
 
 use markup::{Attribute, Element};
-use markup_parts::{count, end, given, open, push_pieces, start, text};
-use page_parts::{push_heading, push_span, push_subheading};
+use markup::{count, end, given, open, push_pieces, start, text};
+use markup::{push_heading, push_span, push_subheading};
 use sentence_parts::{number, sentence, words};
 use std::alloc::{AllocError, Global};
 use story_accounts::{Account, Group, SECTIONS, Section, section_title};

@@ -2,7 +2,7 @@
 use Rattle.std.proofs.Common.{◌≡◌, Bool, true, false, not, List, ℕ, ◌-◌, length, Option, None, Some, Ok, Err, Result, refl, ap, ◌∙◌}
 use Rattle.std.specs.Prelude.{IfOk, is_some, if◌then◌else◌, slice_get}
 use Rattle.line_script.specs.LineReader.{reading}
-use Rattle.script_findings.specs.Findings.{FindingParts}
+use Rattle.script_faults.specs.Findings.{FindingParts}
 use Rattle.script_faults.specs.declared.fault.Fault.{Fault}
 use Rattle.script_faults.specs.Forms.{has_reading, fault_of}
 use Rattle.script_faults.specs.LineFindings.{plain_by, returned_by, line_finding}

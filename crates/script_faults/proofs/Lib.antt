@@ -6,3 +6,4 @@ pub mod StrayOctets
 pub mod FaultPlaces
 pub mod LinePlaces
 pub mod FoundLines
+pub mod Repeats

@@ -4,3 +4,8 @@ pub mod Nearest
 pub mod Places
 pub mod WordFindings
 pub mod Wording
+pub mod Findings
+pub mod LineWords
+pub mod Texts
+pub mod EventFindings
+pub mod Runs

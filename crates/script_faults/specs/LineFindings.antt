@@ -6,8 +6,8 @@ use Rattle.line_script.specs.declared.kind.EventKind.{EventKind}
 use Rattle.line_script.specs.Kinds.{kind_named, kind_word}
 use Rattle.sentence_parts.specs.declared.part.Part.TheVariants.{Words, Number, Octets}
 use Rattle.sentence_parts.specs.Parts.{parts_text}
-use Rattle.script_findings.specs.Findings.{FindingParts, finding_at, noted}
-use Rattle.script_findings.specs.LineWords.{rest_at, word_at, spaces_at}
+use Rattle.script_faults.specs.Findings.{FindingParts, finding_at, noted}
+use Rattle.script_faults.specs.LineWords.{rest_at, word_at, spaces_at}
 use Rattle.script_faults.specs.declared.fault.Cause.{Cause}
 use Rattle.script_faults.specs.declared.fault.Cause.TheVariants as causes
 use Rattle.script_faults.specs.declared.fault.Fault.{Fault}

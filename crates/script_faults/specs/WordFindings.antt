@@ -6,8 +6,8 @@ use Rattle.std.specs.Char.{is_ascii_digit, is_ascii_hexdigit, to_ascii_lowercase
 use Rattle.line_script.specs.declared.kind.EventKind.{EventKind}
 use Rattle.sentence_parts.specs.declared.part.Part.TheVariants as parts
 use Rattle.sentence_parts.specs.Parts.{parts_text}
-use Rattle.script_findings.specs.Findings.{FindingParts, finding_at, noted}
-use Rattle.script_findings.specs.LineWords.{rest_at}
+use Rattle.script_faults.specs.Findings.{FindingParts, finding_at, noted}
+use Rattle.script_faults.specs.LineWords.{rest_at}
 use Rattle.script_faults.specs.declared.form.WordKind.{WordKind}
 use Rattle.script_faults.specs.declared.wording.Shape.{Shape}
 use Rattle.script_faults.specs.declared.wording.Shape.TheVariants.{Number, Digits, Pairs, Record}

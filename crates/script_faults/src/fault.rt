@@ -11,7 +11,7 @@ ghost use Rattle.script_faults.specs.Places.{IsPlace};
 
 use crate::form::{Form, WordKind, form_of, is_word};
 use line_script::EventKind;
-use script_findings::space_at;
+use crate::space_at;
 
 /// Why a line has no reading.
 #[derive(Clone, Copy, Debug, PartialEq, Eq)]

@@ -3,7 +3,7 @@ ghost use Rattle.std.specs.Prelude.{◌≡◌, ◌==◌, ◌<◌, ◌≤◌, ◌
 ghost use Rattle.std.specs.Option.{option_copied};
 ghost use Rattle.line_script.specs.declared.word.TheConstants.{LINE_OCTETS};
 ghost use Rattle.line_script.specs.LineReader.{reading};
-ghost use Rattle.script_findings.specs.Findings.{noted};
+ghost use Rattle.script_faults.specs.Findings.{noted};
 ghost use Rattle.script_faults.specs.Forms.{has_reading};
 ghost use Rattle.script_faults.specs.Nearest.{meant};
 ghost use Rattle.script_faults.specs.WordFindings.{in_lower_case};
@@ -15,7 +15,7 @@ use crate::nearest::nearest_kind;
 use crate::wording::{first_words, form_words, other_words, wanted, word_count};
 use crate::wrong_words::{in_lower_case, is_octet, tab, with_form, word_finding, wrong_word};
 use line_script::EventKind;
-use script_findings::{Finding, rest_at, spaces_at, word_at};
+use crate::{Finding, rest_at, spaces_at, word_at};
 use sentence_parts::{number, octets, words};
 use std::alloc::{AllocError, Global};
 

@@ -2,14 +2,14 @@
 ghost use Rattle.std.specs.Prelude.{◌≡◌, ◌==◌, ◌<◌, ◌+◌, ◌-◌, ◌^◌, ◌++◌, IfOk, IfSome, OnOk, length, not, position, slice_get, string_bytes};
 ghost use Rattle.std.specs.Char.{is_ascii_digit, is_ascii_hexdigit};
 ghost use Rattle.std.specs.Option.{option_copied};
-ghost use Rattle.script_findings.specs.Findings.{noted};
+ghost use Rattle.script_faults.specs.Findings.{noted};
 ghost use Rattle.script_faults.specs.Nearest.{distance};
 ghost use Rattle.script_faults.specs.WordFindings as findings;
 
 use crate::form::WordKind;
 use crate::wording::{Shape, form_words, shape_of, wanted};
 use line_script::EventKind;
-use script_findings::{Finding, rest_at};
+use crate::{Finding, rest_at};
 use sentence_parts::{number, octets, words};
 use std::alloc::{AllocError, Global};
 use std::marker::Model;

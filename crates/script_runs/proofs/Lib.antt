@@ -1,3 +1,5 @@
 pub mod Runs
 pub mod Ends
 pub mod QuietLines
+pub mod Causes
+mod WrittenTexts

@@ -1,2 +1,5 @@
 pub mod TakenLines
 pub mod Laws
+pub mod Runs
+pub mod Statuses
+pub mod Texts

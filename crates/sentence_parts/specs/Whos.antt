@@ -2,11 +2,11 @@
 use Rattle.std.specs.Prelude.{ℕ, ◌==◌, Bool, List, Option, None, Some, if◌then◌else◌, nat_lt, position, slice_get}
 use Rattle.plc_base.specs.declared.address.Eui.{Eui}
 use Rattle.plc_base.specs.Addresses.{eui_number}
-use Rattle.frame_words.specs.declared.gist.FrameTarget.{FrameTarget}
-use Rattle.frame_words.specs.declared.gist.FrameTarget.TheVariants as targets
-use Rattle.frame_words.specs.declared.gist.Gist.{Gist}
-use Rattle.frame_words.specs.declared.gist.Gist.TheVariants as gists
-use Rattle.frame_words.specs.Gists.{payload_gist}
+use Rattle.frame_facts.specs.declared.gist.FrameTarget.{FrameTarget}
+use Rattle.frame_facts.specs.declared.gist.FrameTarget.TheVariants as targets
+use Rattle.frame_facts.specs.declared.gist.Gist.{Gist}
+use Rattle.frame_facts.specs.declared.gist.Gist.TheVariants as gists
+use Rattle.frame_facts.specs.Gists.{payload_gist}
 use Rattle.sentence_parts.specs.declared.part.Who.{Who}
 use Rattle.sentence_parts.specs.declared.part.Who.TheVariants as whos
 

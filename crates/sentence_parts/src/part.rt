@@ -3,7 +3,7 @@ ghost use Rattle.std.specs.Prelude.{◌≡◌, ◌++◌, IfOk, OnOk, codes, deci
 ghost use Rattle.hex.specs.Hex.{encode_lower};
 ghost use Rattle.sentence_parts.specs.Parts as spec_parts;
 
-use frame_words::{push_number, push_short};
+use frame_facts::{push_number, push_short};
 use itoa::Buffer;
 use plc_base::{Eui, OctetRef};
 use std::alloc::{AllocError, Global};

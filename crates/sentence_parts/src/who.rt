@@ -5,7 +5,7 @@ ghost use Rattle.plc_base.specs.declared.limits.TheConstants.{LONGEST_FRAME};
 ghost use Rattle.sentence_parts.specs.Whos as spec_whos;
 
 use crate::part::Who;
-use frame_words::{FrameTarget, Gist, payload_gist};
+use frame_facts::{FrameTarget, Gist, payload_gist};
 use plc_base::Eui;
 
 /// The node with a short address. `homes` has the node of each address.

@@ -2,7 +2,7 @@
 use Rattle.std.specs.Prelude.{ℕ, List, [], Option, None, Some}
 use Rattle.plc_base.specs.declared.address.Eui.{Eui}
 use Rattle.node_rules.specs.declared.shown.ShownPeer.{ShownPeer}
-use Rattle.frame_details.specs.declared.detail.FlightMore.{FlightMore}
+use Rattle.frame_facts.specs.declared.detail.FlightMore.{FlightMore}
 use Rattle.line_script.specs.AnswerWords.{answer_word}
 use Rattle.line_record.specs.declared.recorded.RecordedEvent.{RecordedEvent}
 use Rattle.line_record.specs.declared.recorded.RecordedFlight.{RecordedFlight}

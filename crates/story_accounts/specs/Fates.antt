@@ -1,11 +1,11 @@
 -- What became of a flight, in words.
 use Rattle.std.specs.Prelude.{ℕ, ◌+◌, ◌==◌, ◌&&◌, Bool, true, false, not, nat_le, List, [], ◌∷◌, ◌++◌, codes, slice_get, take}
 use Rattle.std.specs.Prelude.{Option, None, Some, if◌then◌else◌}
-use Rattle.frame_words.specs.declared.gist.FrameTarget.{FrameTarget}
-use Rattle.frame_words.specs.declared.gist.FrameTarget.TheVariants as targets
-use Rattle.frame_words.specs.declared.kind.PayloadKind.{PayloadKind}
-use Rattle.frame_words.specs.declared.kind.PayloadKind.TheVariants as kinds
-use Rattle.frame_words.specs.Kinds.{kind_word}
+use Rattle.frame_facts.specs.declared.gist.FrameTarget.{FrameTarget}
+use Rattle.frame_facts.specs.declared.gist.FrameTarget.TheVariants as targets
+use Rattle.frame_facts.specs.declared.kind.PayloadKind.{PayloadKind}
+use Rattle.frame_facts.specs.declared.kind.PayloadKind.TheVariants as kinds
+use Rattle.frame_facts.specs.Kinds.{kind_word}
 use Rattle.line_script.specs.AnswerWords.{answer_word}
 use Rattle.line_record.specs.declared.recorded.RecordedEvent.{RecordedEvent}
 use Rattle.line_record.specs.declared.recorded.RecordedFlight.{RecordedFlight}
@@ -13,7 +13,7 @@ use Rattle.line_record.specs.declared.course.Course.{Course}
 use Rattle.line_record.specs.declared.course.Fate.{Fate}
 use Rattle.line_record.specs.declared.course.Fate.TheVariants as fates
 use Rattle.node_rules.specs.declared.shown.ShownPeer.{ShownPeer}
-use Rattle.frame_details.specs.declared.detail.FlightMore.{FlightMore}
+use Rattle.frame_facts.specs.declared.detail.FlightMore.{FlightMore}
 use Rattle.line_record.specs.Counters.{flight_with}
 use Rattle.line_record.specs.Kinds.{actor_of, takes_counter}
 use Rattle.line_record.specs.RunRecords.{numbered}

@@ -1,8 +1,8 @@
 -- What is looked up of a run again and again, by stories and flights.
 use Rattle.std.specs.Prelude.{ℕ, ◌+◌, ◌-◌, ◌==◌, ◌&&◌, Bool, false, not, List, [], ◌∷◌, ◌++◌, length, replicate, slice_get}
 use Rattle.std.specs.Prelude.{Option, None, Some, if◌then◌else◌}
-use Rattle.frame_words.specs.declared.gist.Gist.{Gist}
-use Rattle.frame_words.specs.declared.gist.Gist.TheVariants as gists
+use Rattle.frame_facts.specs.declared.gist.Gist.{Gist}
+use Rattle.frame_facts.specs.declared.gist.Gist.TheVariants as gists
 use Rattle.line_record.specs.declared.act.Act.{Act}
 use Rattle.line_record.specs.declared.act.Act.TheVariants as acts
 use Rattle.line_record.specs.declared.recorded.RecordedEvent.{RecordedEvent}

@@ -1,7 +1,7 @@
 -- The text of `explain`: what became of each story, section by section, and what was refused.
 use Rattle.std.specs.Prelude.{ℕ, ◌+◌, ◌-◌, ◌==◌, ◌&&◌, ◌||◌, Bool, true, false, not, List, [], ◌∷◌, ◌++◌, codes, length, position, replicate, slice_get, take}
 use Rattle.std.specs.Prelude.{Option, None, Some, if◌then◌else◌, decimal, nat_lt, nat_le}
-use Rattle.frame_words.specs.declared.gist.FrameTarget.{FrameTarget}
+use Rattle.frame_facts.specs.declared.gist.FrameTarget.{FrameTarget}
 use Rattle.line_events.specs.declared.event.Answer.{Answer}
 use Rattle.line_events.specs.Answers.{is_ok}
 use Rattle.line_script.specs.AnswerWords.{answer_word}

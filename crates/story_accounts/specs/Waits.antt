@@ -3,8 +3,8 @@ use Rattle.std.specs.Prelude.{ℕ, ◌+◌, ◌-◌, ◌==◌, ◌&&◌, Bool, t
 use Rattle.std.specs.Prelude.{Option, None, Some, if◌then◌else◌, nat_lt}
 use Rattle.std.specs.List.{list_any}
 use Rattle.std.specs.Option.{unwrap_or}
-use Rattle.frame_words.specs.declared.gist.Gist.{Gist}
-use Rattle.frame_words.specs.declared.gist.Gist.TheVariants as gists
+use Rattle.frame_facts.specs.declared.gist.Gist.{Gist}
+use Rattle.frame_facts.specs.declared.gist.Gist.TheVariants as gists
 use Rattle.line_record.specs.declared.act.Act.{Act}
 use Rattle.line_record.specs.declared.act.Act.TheVariants as acts
 use Rattle.line_record.specs.declared.recorded.RecordedEvent.{RecordedEvent}

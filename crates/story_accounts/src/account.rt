@@ -7,7 +7,7 @@ ghost use Rattle.story_accounts.specs.Accounts as accounts;
 use crate::index::Index;
 use crate::marks::Marks;
 use crate::numbers::numbered;
-use frame_details::FlightMore;
+use frame_facts::FlightMore;
 use line_record::{
     Counters, Course, Ends, RecordedEvent, RecordedFlight, RunRecord, Story, Verdict, verdict_of,
 };

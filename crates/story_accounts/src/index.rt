@@ -6,7 +6,7 @@ ghost use Rattle.line_record.specs.Verdicts.{first_nonzero};
 ghost use Rattle.story_accounts.specs.Indexes as indexes;
 
 use crate::numbers::{Numbers, no_numbers, numbered, push_at, push_new_at};
-use frame_words::Gist;
+use frame_facts::Gist;
 use line_record::{
     Act, Course, RecordedEvent, RecordedFlight, RunRecord, first_nonzero, made_by, went_on,
 };

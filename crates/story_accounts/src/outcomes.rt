@@ -6,7 +6,7 @@ ghost use Rattle.story_accounts.specs.Outcomes as outcomes;
 
 use crate::account::Account;
 use crate::fates::two_words;
-use frame_words::Gist;
+use frame_facts::Gist;
 use line_record::{Act, Kept, KeptEnd, RecordedEvent, RecordedFlight, Story, StoryKind, Verdict};
 use sentence_parts::{node, number, push_parts, sentence, words};
 use std::alloc::{AllocError, Global};

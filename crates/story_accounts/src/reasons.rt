@@ -7,7 +7,7 @@ use crate::fates::{is_to_all, two_words};
 use crate::groups::{Group, join, largest_first};
 use crate::searches::Reach;
 use crate::waiting::{has_taken, until_of};
-use frame_words::FrameTarget;
+use frame_facts::FrameTarget;
 use itoa::Buffer;
 use line_events::Answer;
 use line_record::{Fate, Kept, Story, Verdict, is_for_another, is_good};

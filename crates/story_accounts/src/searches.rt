@@ -5,7 +5,7 @@ ghost use Rattle.line_record.specs.Lists.{changed_at};
 ghost use Rattle.story_accounts.specs.Searches as searches;
 
 use crate::account::Account;
-use frame_words::Gist;
+use frame_facts::Gist;
 use line_events::Answer;
 use line_record::{Course, Fate, RecordedEvent, RecordedFlight, actor_of, first_nonzero};
 use std::alloc::{AllocError, Global};

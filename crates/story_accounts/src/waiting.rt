@@ -5,7 +5,7 @@ ghost use Rattle.story_accounts.specs.Waits as waits;
 use crate::account::Account;
 use crate::fates::is_mute;
 use crate::searches::{REFUSED, Reach, TOOK};
-use frame_words::Gist;
+use frame_facts::Gist;
 use line_record::{
     Act, Course, Fate, Kept, KeptEnd, RecordedEvent, RecordedFlight, Story, StoryKind,
     first_nonzero, made_by,

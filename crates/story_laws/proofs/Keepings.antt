@@ -19,13 +19,13 @@ use Rattle.line_record.specs.declared.recorded.RecordedFlight.{RecordedFlight}
 use Rattle.line_record.specs.KeptItems.{end_of, is_kept_of, is_left, is_power_lost, is_restart, is_still, is_tick, makes_message, may_end, restarts, time_of}
 use Rattle.line_record.specs.Kinds.{actor_of, is_piece_held, prepares, sends}
 use Rattle.line_record.specs.RunRecords.{made_by, numbered}
-use Rattle.line_stories.specs.NodeItems.{about_by, asked_about, has_kept, is_message_about, is_waiting, keeping_left, kept_if, message_about, message_kept}
-use Rattle.line_stories.specs.NodeItems.{new_kept}
-use Rattle.line_stories.specs.NodeItems.{others_kept, piece_kept, piece_of, still_kept, waiting_kept}
-use Rattle.line_stories.specs.Stories.{Stories, announced, event_by, event_seen, events_seen, flight_owner, flight_seen, flights_seen, kept_begun}
-use Rattle.line_stories.specs.Stories.{kept_ended, kept_seen, last_owner, may_leave, message_story, next_event, no_stories, readied, stories_after}
-use Rattle.line_stories.specs.Stories.{settled, stories_of, record_seen, up_by, up_keeping, up_kept}
-use Rattle.line_stories.proofs.Counts.{one_more, seen, settled_count}
+use Rattle.line_record.specs.NodeItems.{about_by, asked_about, has_kept, is_message_about, is_waiting, keeping_left, kept_if, message_about, message_kept}
+use Rattle.line_record.specs.NodeItems.{new_kept}
+use Rattle.line_record.specs.NodeItems.{others_kept, piece_kept, piece_of, still_kept, waiting_kept}
+use Rattle.line_record.specs.Stories.{Stories, announced, event_by, event_seen, events_seen, flight_owner, flight_seen, flights_seen, kept_begun}
+use Rattle.line_record.specs.Stories.{kept_ended, kept_seen, last_owner, may_leave, message_story, next_event, no_stories, readied, stories_after}
+use Rattle.line_record.specs.Stories.{settled, stories_of, record_seen, up_by, up_keeping, up_kept}
+use Rattle.line_record.proofs.Counts.{one_more, seen, settled_count}
 use Rattle.story_laws.specs.Keepings.{HasBegun, IsGathered, IsKeptSince, IsMessage, KeptAreSince, MakesNone, Waits}
 
 true_false : true ≡ false → ⊥

@@ -12,10 +12,10 @@ use Rattle.line_record.specs.declared.recorded.RecordedEvent.{RecordedEvent}
 use Rattle.line_record.specs.declared.recorded.RecordedFlight.{RecordedFlight}
 use Rattle.line_record.specs.Kinds.{prepares, sends}
 use Rattle.line_record.specs.RunRecords.{made_by}
-use Rattle.line_stories.specs.NodeItems.{is_waiting, keeping_begun, keeping_left, message_about, message_kept, new_kept, piece_kept, waiting_kept}
-use Rattle.line_stories.specs.Stories.{Stories, announced, event_by, event_seen, events_seen, flight_owner, flight_seen, flights_seen, kept_begun}
-use Rattle.line_stories.specs.Stories.{kept_ended, kept_seen, last_owner, may_leave, message_story, no_stories, stories_after, settled, record_seen, up_kept}
-use Rattle.line_stories.proofs.Counts.{events_count, seen}
+use Rattle.line_record.specs.NodeItems.{is_waiting, keeping_begun, keeping_left, message_about, message_kept, new_kept, piece_kept, waiting_kept}
+use Rattle.line_record.specs.Stories.{Stories, announced, event_by, event_seen, events_seen, flight_owner, flight_seen, flights_seen, kept_begun}
+use Rattle.line_record.specs.Stories.{kept_ended, kept_seen, last_owner, may_leave, message_story, no_stories, stories_after, settled, record_seen, up_kept}
+use Rattle.line_record.proofs.Counts.{events_count, seen}
 use Rattle.story_laws.specs.Keepings.{BeginsToWait, WaitsAreKept}
 use Rattle.story_laws.proofs.Keepings.{settled_number}
 

@@ -1,8 +1,8 @@
 -- Since when a story says that a node keeps something of it.
 use Rattle.std.specs.Prelude.{◌≡◌, ℕ, ◌+◌, ◌<◌, true, false, List, [], ◌∷◌, ◌++◌, length, is_some, Some, All}
 use Rattle.line_progress.specs.Lists.{Among}
-use Rattle.line_stories.specs.NodeItems.{is_waiting}
-use Rattle.line_stories.specs.Stories.{Stories, events_seen, last_owner, may_leave, no_stories, stories_of}
+use Rattle.line_record.specs.NodeItems.{is_waiting}
+use Rattle.line_record.specs.Stories.{Stories, events_seen, last_owner, may_leave, no_stories, stories_of}
 use Rattle.line_record.specs.declared.kept.Kept.{Kept}
 use Rattle.line_record.specs.declared.kept.KeptEnd.TheVariants as kept_ends
 use Rattle.line_record.specs.declared.recorded.RecordedEvent.{RecordedEvent}

@@ -6,7 +6,7 @@ use Rattle.line_progress.specs.Lists.{Among}
 use Rattle.line_progress.specs.Stations.{station_at}
 use Rattle.line_rules.specs.Runs.{Entry, IsRun}
 use Rattle.line_rules.specs.Worlds.{World, start}
-use Rattle.line_stories.specs.Stories.{stories_of}
+use Rattle.line_record.specs.Stories.{stories_of}
 use Rattle.line_record.specs.declared.kept.Kept.{Kept}
 use Rattle.line_record.specs.declared.recorded.RecordedEvent.{RecordedEvent}
 use Rattle.line_record.specs.declared.recorded.RecordedFlight.{RecordedFlight}

@@ -1,6 +1,6 @@
 use Rattle.std.proofs.Common.{map}
 use Rattle.std.proofs.lemmas.Result.{err_from_is_err_and}
-use Rattle.outbox_keeper.specs.Outbox.{write_of}
+use Rattle.host_calls.specs.Outbox.{write_of}
 use Rattle.host_calls.specs.Answers.{puts_text, frames_text, joined_text, up_text, status_text}
 use Rattle.host_calls.proofs.WrittenTexts.{all, behind, cut_short, of_same}
 use Rattle.host_calls.proofs.answers.write_answer.Goals as goal

@@ -1,7 +1,7 @@
 use Rattle.std.proofs.Common.{◌+◌, List, drop, map, refl}
 use Rattle.std.proofs.lemmas.Result.{err_from_is_err_and}
-use Rattle.outbox_keeper.specs.Outbox.{write_of}
-use Rattle.outbox_keeper.specs.declared.outbox.ListedPut.{ListedPut}
+use Rattle.host_calls.specs.Outbox.{write_of}
+use Rattle.host_calls.specs.declared.outbox.ListedPut.{ListedPut}
 use Rattle.host_calls.specs.Answers.{put_text, puts_text}
 use Rattle.host_calls.proofs.WrittenTexts.{all, one_next, one_more, one_less}
 use Rattle.host_calls.proofs.answers.write_puts.Goals as goal

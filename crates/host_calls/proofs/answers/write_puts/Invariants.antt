@@ -1,6 +1,6 @@
 use Rattle.std.proofs.Common.{◌≡◌, List, ℕ, ◌++◌, drop, map}
 use Rattle.host_calls.proofs.WrittenTexts.{Wrote}
-use Rattle.outbox_keeper.specs.Outbox.{write_of}
+use Rattle.host_calls.specs.Outbox.{write_of}
 use Rattle.host_calls.specs.Answers.{puts_text}
 use Rattle.host_calls.proofs.answers.write_puts.Given as goal
 

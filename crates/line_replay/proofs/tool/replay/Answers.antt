@@ -1,8 +1,8 @@
 use Rattle.std.proofs.Common.{false, refl, sym}
 use Rattle.line_rules.specs.Worlds.{start}
 use Rattle.script_lines.specs.declared.machine.Exit.TheVariants as exits
-use Rattle.program_ends.specs.declared.status.Status.TheVariants as status
-use Rattle.program_ends.proofs.Causes.{ran_of, read_cause, write_cause}
+use Rattle.script_runs.specs.declared.status.Status.TheVariants as status
+use Rattle.script_runs.proofs.Causes.{ran_of, read_cause, write_cause}
 use Rattle.line_replay.proofs.DriverRuns.{entries_run, whole_exit}
 use Rattle.line_replay.proofs.Replayed.{replays_of}
 use Rattle.line_replay.specs.Replay.{Playing, entries, is_forged, outcome}

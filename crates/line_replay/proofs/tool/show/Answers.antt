@@ -1,6 +1,6 @@
 use Rattle.std.proofs.Common.{refl, false}
-use Rattle.program_ends.specs.declared.status.Status.TheVariants as status
-use Rattle.program_ends.proofs.Causes.{ran_of, read_cause, write_cause}
+use Rattle.script_runs.specs.declared.status.Status.TheVariants as status
+use Rattle.script_runs.proofs.Causes.{ran_of, read_cause, write_cause}
 use Rattle.line_replay.proofs.DriverRuns.{whole_exit}
 use Rattle.line_replay.specs.Shown.{show_outcome}
 use Rattle.line_replay.specs.Tool.{none_forged}

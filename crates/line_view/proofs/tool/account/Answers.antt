@@ -2,10 +2,10 @@ use Rattle.std.proofs.Common.{◌≡◌, true, ap, refl, subst, sym, ◌∙◌}
 use Rattle.plc_base.specs.Streams.{SourceState, SinkState}
 use Rattle.script_lines.specs.declared.machine.Exit.TheVariants as exits
 use Rattle.script_lines.specs.Clauses.{Drives}
-use Rattle.program_ends.specs.declared.status.Status.{Status}
-use Rattle.program_ends.specs.declared.status.Status.TheVariants as status
-use Rattle.program_ends.specs.Statuses.{status_of}
-use Rattle.program_ends.proofs.Causes.{read_cause, write_cause}
+use Rattle.script_runs.specs.declared.status.Status.{Status}
+use Rattle.script_runs.specs.declared.status.Status.TheVariants as status
+use Rattle.script_runs.specs.Statuses.{status_of}
+use Rattle.script_runs.proofs.Causes.{read_cause, write_cause}
 use Rattle.line_view.proofs.StatusNames.{no_read, no_write, status_names}
 use Rattle.line_view.specs.RunMachines.{found_status, outcome_by}
 use Rattle.line_view.proofs.tool.account.Goals as goal

@@ -1,7 +1,7 @@
 use Rattle.std.proofs.Common.{false, refl, sym}
 use Rattle.script_lines.specs.declared.machine.Exit.TheVariants as exits
-use Rattle.program_ends.specs.declared.status.Status.TheVariants as status
-use Rattle.program_ends.proofs.Causes.{ran_of, fine_exit, read_cause, write_cause}
+use Rattle.script_runs.specs.declared.status.Status.TheVariants as status
+use Rattle.script_runs.proofs.Causes.{ran_of, fine_exit, read_cause, write_cause}
 use Rattle.line_view.proofs.Checks.{finds, text_is}
 use Rattle.line_view.proofs.CheckedRuns.{names}
 use Rattle.line_view.specs.CheckRuns.{checking, is_bad, outcome}

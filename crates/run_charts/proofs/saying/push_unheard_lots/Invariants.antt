@@ -1,5 +1,5 @@
 use Rattle.std.proofs.Common.{◌≡◌, ◌++◌, drop}
-use Rattle.markup_parts.specs.Markups.{markup_text}
+use Rattle.markup.specs.Markups.{markup_text}
 use Rattle.std.specs.Prelude.{◌+◌}
 use Rattle.run_charts.specs.RowSentences.{late_from}
 use Rattle.run_charts.proofs.saying.push_unheard_lots.Given as goal

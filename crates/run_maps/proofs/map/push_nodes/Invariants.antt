@@ -1,5 +1,5 @@
 use Rattle.std.proofs.Common.{◌≡◌, ◌++◌}
-use Rattle.markup_parts.specs.Markups.{markup_text}
+use Rattle.markup.specs.Markups.{markup_text}
 use Rattle.run_maps.specs.Maps.{nodes}
 use Rattle.run_maps.proofs.map.push_nodes.Given as goal
 

@@ -1,5 +1,5 @@
 use Rattle.std.proofs.Common.{◌≡◌, ◌++◌}
-use Rattle.markup_parts.specs.Markups.{markup_text}
+use Rattle.markup.specs.Markups.{markup_text}
 use Rattle.run_maps.specs.Routes.{routes_from}
 use Rattle.run_maps.proofs.route.push_routes_from.Given as goal
 

@@ -1,5 +1,5 @@
 use Rattle.std.proofs.Common.{◌≡◌, ◌++◌, drop}
-use Rattle.markup_parts.specs.Markups.{markup_text}
+use Rattle.markup.specs.Markups.{markup_text}
 use Rattle.run_maps.specs.Ties.{costs}
 use Rattle.run_maps.proofs.tie.push_costs.Given as goal
 

@@ -1,5 +1,5 @@
 use Rattle.std.proofs.Common.{◌≡◌, ◌++◌, drop}
-use Rattle.markup_parts.specs.Markups.{markup_text}
+use Rattle.markup.specs.Markups.{markup_text}
 use Rattle.run_pages.specs.NodeTables.{rows}
 use Rattle.run_pages.proofs.node_table.push_rows.Given as goal
 

@@ -1,6 +1,6 @@
 use Rattle.std.proofs.Common.{◌++◌, codes}
-use Rattle.markup_parts.specs.Markups.{markup_text}
-use Rattle.page_parts.specs.Parts.{heading, map_keys}
+use Rattle.markup.specs.Markups.{markup_text}
+use Rattle.markup.specs.Parts.{heading, map_keys}
 use Rattle.run_pages.specs.Pages.{links, map_card}
 use Rattle.run_pages.proofs.PageText.{then}
 use Rattle.run_pages.proofs.page_text.push_links.Goals as goal

@@ -1,6 +1,6 @@
 use Rattle.std.proofs.Common.{codes}
-use Rattle.markup_parts.specs.Markups.{markup_text}
-use Rattle.page_parts.specs.Parts.{heading}
+use Rattle.markup.specs.Markups.{markup_text}
+use Rattle.markup.specs.Parts.{heading}
 use Rattle.run_pages.specs.Reasons.{reason_card, reasons}
 use Rattle.run_pages.proofs.PageText.{then}
 use Rattle.run_pages.proofs.reasons.push_reasons.Goals as goal

@@ -1,6 +1,6 @@
 use Rattle.std.proofs.Common.{◌≡◌, sym, subst}
 use Rattle.std.specs.Prelude.{IfOk, string_bytes}
-use Rattle.frame_words.specs.declared.gist.Gist.{Gist}
+use Rattle.frame_facts.specs.declared.gist.Gist.{Gist}
 use Rattle.event_sentences.specs.Scenes.{scene_of}
 use Rattle.event_sentences.specs.Taken.{reported_text}
 use Rattle.event_sentences.proofs.moment.Moment.reported_by.Goals as goal

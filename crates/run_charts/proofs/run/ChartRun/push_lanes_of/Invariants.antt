@@ -1,5 +1,5 @@
 use Rattle.std.proofs.Common.{◌≡◌, ◌++◌}
-use Rattle.markup_parts.specs.Markups.{markup_text}
+use Rattle.markup.specs.Markups.{markup_text}
 use Rattle.run_charts.specs.Lanes.{lanes_of}
 use Rattle.run_charts.proofs.run.ChartRun.push_lanes_of.Given as goal
 

@@ -1,5 +1,5 @@
 use Rattle.std.proofs.Common.{◌≡◌, ◌++◌, drop}
-use Rattle.markup_parts.specs.Markups.{markup_text}
+use Rattle.markup.specs.Markups.{markup_text}
 use Rattle.run_charts.specs.Charts.{rows_drawing}
 use Rattle.run_charts.proofs.run.ChartRun.push_rows.Given as goal
 

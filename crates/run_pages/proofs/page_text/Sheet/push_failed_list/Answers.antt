@@ -1,6 +1,6 @@
 use Rattle.std.proofs.Common.{◌≡◌, ◌++◌, OnOk, List, ap, codes, subst, ◌∙◌}
-use Rattle.markup_parts.specs.Markups.{markup_text}
-use Rattle.page_parts.specs.Parts.{heading}
+use Rattle.markup.specs.Markups.{markup_text}
+use Rattle.markup.specs.Parts.{heading}
 use Rattle.line_record.specs.declared.story.Story.{Story}
 use Rattle.run_pages.specs.Pages.{failed_from, failed_list}
 use Rattle.run_pages.proofs.PageText.{then}

@@ -1,5 +1,5 @@
 use Rattle.std.proofs.Common.{◌≡◌, ◌++◌, drop}
-use Rattle.markup_parts.specs.Markups.{markup_text}
+use Rattle.markup.specs.Markups.{markup_text}
 use Rattle.run_pages.specs.Pages.{failed_from}
 use Rattle.run_pages.proofs.page_text.Sheet.push_failed_of.Given as goal
 

@@ -1,5 +1,5 @@
 use Rattle.std.proofs.Common.{◌≡◌, ◌++◌, ℕ, OnOk, Option, sym, subst, ◌∙◌}
-use Rattle.markup_parts.specs.Markups.{markup_text}
+use Rattle.markup.specs.Markups.{markup_text}
 use Rattle.run_pages.specs.Pages.{forged_by}
 use Rattle.run_pages.proofs.page_text.Sheet.push_forged.Goals as goal
 

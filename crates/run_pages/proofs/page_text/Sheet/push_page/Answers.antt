@@ -1,5 +1,5 @@
 use Rattle.std.proofs.Common.{codes}
-use Rattle.markup_parts.specs.Markups.{markup_text}
+use Rattle.markup.specs.Markups.{markup_text}
 use Rattle.run_pages.specs.Pages.{content, or_words}
 use Rattle.run_pages.proofs.PageText.{page_written}
 use Rattle.run_pages.proofs.page_text.Sheet.push_page.Goals as goal

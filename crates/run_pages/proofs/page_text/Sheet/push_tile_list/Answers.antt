@@ -1,4 +1,4 @@
-use Rattle.markup_parts.specs.Markups.{markup_text}
+use Rattle.markup.specs.Markups.{markup_text}
 use Rattle.run_pages.specs.Pages.{count_tiles, story_tiles, tile_list}
 use Rattle.run_pages.proofs.PageText.{then}
 use Rattle.run_pages.proofs.page_text.Sheet.push_tile_list.Goals as goal

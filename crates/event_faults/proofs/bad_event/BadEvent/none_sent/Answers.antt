@@ -1,5 +1,0 @@
-use Rattle.event_faults.proofs.bad_event.BadEvent.none_sent.Goals as goal
-
-pub returns : goal.returns
-unfolding Rattle.event_faults.specs.EventFindings.none_sent
-returns c = rw (← c.self.view_is) (rw (c.words.ensures, c.number.ensures, c.words-2.ensures) at c.found.ensures)

@@ -1,5 +1,0 @@
-use Rattle.event_faults.proofs.bad_event.BadEvent.with_first.Goals as goal
-
-pub returns : goal.returns
-unfolding Rattle.event_faults.specs.EventFindings.first_is_in
-returns c = rw (← c.self.view_is) (rw (c.words.ensures, c.number.ensures, c.made_row-row.ensures) at c.with.ensures)

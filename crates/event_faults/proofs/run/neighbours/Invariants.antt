@@ -1,9 +1,0 @@
-use Rattle.std.proofs.Common.{◌≡◌, ◌≤◌, ◌+◌, drop}
-use Rattle.event_faults.specs.Runs.{neighbours}
-use Rattle.event_faults.proofs.run.neighbours.Given as goal
-
-abbrev pub invariant-loop-event : goal.invariant-loop-event
-invariant-loop-event l = record {
-  count : l.count + neighbours (drop l.event-index l.events) l.node ≡ neighbours l.events l.node;
-  within : l.count ≤ l.event-index;
-}

@@ -1,2 +1,0 @@
-pub mod EventFindings
-pub mod Runs

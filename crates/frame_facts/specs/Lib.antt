@@ -1,0 +1,5 @@
+pub mod Kinds
+pub mod Words
+pub mod Gists
+pub mod Details
+pub mod Payloads

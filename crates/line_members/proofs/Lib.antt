@@ -1,3 +1,0 @@
-mod Order
-mod Reach
-mod Written

@@ -1,5 +1,0 @@
-use Rattle.line_members.proofs.Order.{in_order}
-use Rattle.line_members.proofs.agents.agents_come_in_order.Goals as goal
-
-pub returns : goal.returns
-returns c = in_order

@@ -1,8 +1,0 @@
-use Rattle.std.proofs.Common.{◌≡◌, drop}
-use Rattle.line_stories.specs.NodeItems.{stories_ended}
-use Rattle.line_stories.proofs.keeping.end_stories.Given as goal
-
--- what comes of what is kept after that
-abbrev pub invariant-loop-kept : goal.invariant-loop-kept
-invariant-loop-kept l =
-    stories_ended l.number l.recorded (drop l.kept-index l.keeping) l.stories.items ≡ stories_ended l.number l.recorded l.keeping l.fn.stories.items

@@ -1,5 +1,0 @@
-use Rattle.line_stories.proofs.Counts.{events_are_owned}
-use Rattle.line_stories.proofs.laws.events_are_owned.Goals as goal
-
-pub returns : goal.returns
-returns c = events_are_owned

@@ -1,3 +1,0 @@
-pub mod NodeItems
-pub mod Stories
-pub mod Laws

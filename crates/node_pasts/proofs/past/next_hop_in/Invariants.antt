@@ -1,7 +1,0 @@
-use Rattle.std.proofs.Common.{◌≡◌, drop}
-use Rattle.node_pasts.specs.Pasts.{next_hop_in}
-use Rattle.node_pasts.proofs.past.next_hop_in.Given as goal
-
--- none of the routes so far is one to the coordinator
-abbrev pub invariant-loop-route : goal.invariant-loop-route
-invariant-loop-route l = next_hop_in (drop l.route-index l.routes) ≡ next_hop_in l.routes

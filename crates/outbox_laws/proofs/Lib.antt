@@ -1,9 +1,0 @@
-pub mod DeferredPuts
-pub mod ListedPuts
-pub mod PutCounts
-pub mod HeardPuts
-pub mod SendPuts
-pub mod MemoryPuts
-pub mod MeterPuts
-pub mod OrderPuts
-pub mod FewPuts

@@ -1,5 +1,0 @@
-use Rattle.outbox_laws.proofs.ListedPuts.{listed_puts}
-use Rattle.outbox_laws.proofs.laws.listed_puts_are_the_plans.Goals as goal
-
-pub returns : goal.returns
-returns g c = λ old new p answer out before h running e. listed_puts old new p answer out before h running e

@@ -1,2 +1,0 @@
-pub mod DeferredPuts
-pub mod FewPuts

@@ -1,5 +1,0 @@
-use Rattle.page_frame.proofs.style.push_reason_rules.Goals as goal
-
-pub returns : goal.returns
-unfolding Rattle.page_frame.specs.Style.reason_text
-returns c = rw (c.rule.ensures, c.rule-2.ensures, c.rule-3.ensures) at c.push_rules.ensures

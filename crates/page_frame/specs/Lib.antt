@@ -1,3 +1,0 @@
-pub mod Style
-pub mod Frames
-pub mod Laws

@@ -1,2 +1,0 @@
-pub mod Causes
-mod WrittenTexts

@@ -1,5 +1,0 @@
-use Rattle.report_laws.proofs.OneReport.{one_line}
-use Rattle.report_laws.proofs.laws.one_line_for_a_text.Goals as goal
-
-pub returns : goal.returns
-returns c = one_line

@@ -1,5 +1,0 @@
-use Rattle.report_laws.proofs.OneReport.{one_report}
-use Rattle.report_laws.proofs.laws.one_report_for_a_text.Goals as goal
-
-pub returns : goal.returns
-returns c = one_report

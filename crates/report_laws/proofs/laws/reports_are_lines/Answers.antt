@@ -1,5 +1,0 @@
-use Rattle.report_laws.proofs.ReportTexts.{are_lines}
-use Rattle.report_laws.proofs.laws.reports_are_lines.Goals as goal
-
-pub returns : goal.returns
-returns c = are_lines

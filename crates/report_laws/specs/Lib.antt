@@ -1,4 +1,0 @@
-pub mod ReportLines
-pub mod Reports
-pub mod Runs
-pub mod Laws

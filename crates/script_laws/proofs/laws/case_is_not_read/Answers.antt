@@ -1,5 +1,0 @@
-use Rattle.script_laws.proofs.OnlyLines.{case_not_read}
-use Rattle.script_laws.proofs.laws.case_is_not_read.Goals as goal
-
-pub returns : goal.returns
-returns c = case_not_read

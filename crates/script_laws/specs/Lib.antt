@@ -1,2 +1,0 @@
-pub mod LowerCase
-pub mod Laws
