@@ -5,8 +5,7 @@ ghost use Rattle.plc_base.specs.declared.limits.TheConstants.{LONGEST_FRAME};
 ghost use Rattle.frame_facts.specs.Payloads as payloads;
 ghost use Rattle.event_sentences.specs.Heards as heards;
 
-use frame_facts::{FlightMore, more_of, open_octets};
-use frame_facts::{FrameTarget, Gist, PayloadKind};
+use frame_facts::{FlightMore, FrameTarget, Gist, PayloadKind, more_of, open_octets};
 use line_record::{RecordedFlight, recorded_flight};
 use mac_frames::{MacHead, read_frame};
 use plc_base::{Eui, FrameBuf, Key};

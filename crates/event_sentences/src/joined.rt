@@ -5,8 +5,7 @@ ghost use Rattle.event_sentences.specs.Joined as spec_joined;
 
 use crate::heard::Heard;
 use crate::moment::Moment;
-use frame_facts::Detail;
-use frame_facts::Gist;
+use frame_facts::{Detail, Gist};
 use line_events::Answer;
 use line_script::answer_word;
 use plc_base::Eui;

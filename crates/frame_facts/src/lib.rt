@@ -1,9 +1,7 @@
-//! What a frame is, in a few words: one word for its kind, whom it is for, and what its payload is about.
+//! What a frame is and carries: one word for its kind, whom it is for, what its payload is about, and what an opened payload says.
 //!
-//! The octets are read by the readers that nodes use, so nothing is said that a node would not see. `specs/Kinds.antt` has the
-//! kinds, `specs/Gists.antt` whom a frame is for and what its payload is about, and `specs/Words.antt` how an address is written.
-//!
-//! What frames carry: their payloads, opened with a key, and what a payload says beside its gist.
+//! The octets are read by the readers that nodes use, so nothing is said that a node would not see. `specs/Kinds.antt` has the kinds, `specs/Gists.antt`
+//! whom a frame is for and what its payload is about, and `specs/Words.antt` how an address is written.
 //!
 //! ```text
 //! if open_octets(octets, &key, &mut out) {
@@ -15,7 +13,6 @@
 //! ```
 //!
 //! [`decrypt_octets`] gives the payload of a frame that is known to be sealed under a key, as those of a run are, without a look at its tag.
-//!
 //! `specs/Payloads.antt` says which payload a frame has, `specs/Details.antt` what a payload says.
 #![tactic(auto)]
 

@@ -5,8 +5,7 @@ ghost use Rattle.host_calls.specs.Outbox.{write_of};
 ghost use Rattle.host_calls.specs.Answers.{none_given, put_text, frame_text, puts_text, frames_text, joined_text, up_text, status_text, answer_text};
 
 use crate::status::Status;
-use crate::{ItemOctets, write_item};
-use crate::ListedPut;
+use crate::{ItemOctets, ListedPut, write_item};
 use plc_base::{Failed, Out, OutFrame, Short, Sink};
 use std::alloc::{AllocError, Global};
 

@@ -5,31 +5,21 @@
 //! the line carries them out in their order, and whatever an act leads to at once before the acts that follow it. The first task is `Task::Make(0)`.
 //!
 //! The owner knows what a real one knows: how its own commands ended, what came up, which joinings are done; and it knows at once which meters have power
-//! and have taken their keys, where it picks agents.
+//! and have taken their keys, where it picks agents. [`Members`] are the nodes as it knows them, [`Asked`] the readings that were tried; both answer for a
+//! node or a reading that they do not have. A [`Message`] is a datagram between the coordinator and a meter, which is written to octets and read from them.
+//! [`micros`] and [`later`] are times in microseconds, which stop at 2^64 - 1.
 //!
 //! What its calls promise, by the names of their clauses:
 //!
 //! - `owner`, `acts`: state and acts are those of `specs/Turns.antt`, a function of what the owner was, the time and the task. So a run is a function of its
-//!   seed and of what is answered and noticed.
+//!   seed and of what is answered and noticed. The values below it equal their definitions: `specs/Members.antt`, `specs/Asked.antt`, `specs/Agents.antt`,
+//!   `specs/Messages.antt`, `specs/Times.antt`.
 //! - Readings are sent by meters that have joined and have power, what was asked for by meters with power, and questions and receipts go to meters that have
 //!   joined (`only_members_send`).
-//! - Where memory runs out, nothing is said of the owner but that it is safe to drop.
-//!
-//! What the owner of a simulated line knows of it, and the words for what it does: plain values, on which `line_owner` turns.
-//!
-//! - [`Members`] are the nodes as the owner knows them, [`Asked`] the readings that were tried. Both answer for a node or a reading that they do not have.
-//! - [`agent_of_turn`] picks the agent by which a meter joins, of its joined neighbours with power, in the order of hops and cost.
-//! - [`Message`] is a datagram between the coordinator and a meter, which is written to octets and read from them.
-//! - A [`Task`] is what the owner does at a time, a [`Command`] an event that it asks for, a [`Notice`] what it sees of frames. [`Acts`] are what it brings.
-//! - [`micros`] and [`later`] are times in microseconds, which stop at 2^64 - 1.
-//!
-//! What its calls promise:
-//!
-//! - Each equals its definition: `specs/Members.antt`, `specs/Asked.antt`, `specs/Agents.antt`, `specs/Messages.antt`, `specs/Times.antt`.
-//! - The agent that is picked has joined and has power, and it and the meter hear each other (`within_reach`). Agents come in the order of
-//!   their weights, and then of their numbers (`agents_come_in_order`).
+//! - The agent that is picked has joined and has power, and it and the meter hear each other (`within_reach`). Agents come in the order of their weights,
+//!   and then of their numbers (`agents_come_in_order`).
 //! - A message is read as it was written (`written_messages_are_read`), as long as meter and round fit into two octets each.
-//! - Where memory runs out, the readings stay as they were; nothing is said of the octets of a message.
+//! - Where memory runs out, nothing is said of the owner but that it is safe to drop; the readings stay as they were.
 #![tactic(auto)]
 
 mod acts;

@@ -7,8 +7,8 @@ ghost use Rattle.line_owner.specs.States.{with_node, with_asked, gives, spends, 
 ghost use Rattle.air_draws.specs.declared.draws.Purpose.TheVariants.{Times, Keys};
 
 use crate::settings::Settings;
-use air_draws::{Draws, Purpose};
 use crate::{Act, Acts, Asked, Command, Member, Members, Reading, Task, later, micros};
+use air_draws::{Draws, Purpose};
 use std::alloc::{AllocError, Global};
 use std::marker::Model;
 

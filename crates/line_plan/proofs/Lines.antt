@@ -11,7 +11,8 @@ use Rattle.line_plan.specs.declared.options.OptionFault.{OptionFault}
 use Rattle.line_plan.specs.declared.options.OptionFault.TheVariants.{Form, NoValue, NoTable, Memory}
 use Rattle.line_plan.specs.declared.option_reading.NoPlan.{NoPlan}
 use Rattle.line_plan.specs.Options.{with_options, IsChange}
-use Rattle.line_plan.specs.OptionDescriptions.{GivesText, IsOptionLine, cause_line, IsBadBy, Refused, Changed, IsBadWith, WithOptions, Wrong, IsRefused, no_plan}
+use Rattle.line_plan.specs.OptionDescriptions.{GivesText, IsOptionLine, cause_line, IsBadBy, Refused, Changed, IsBadWith, WithOptions, Wrong, IsRefused}
+use Rattle.line_plan.specs.OptionDescriptions.{no_plan}
 
 -- the line of an option that is refused
 refused : (old : Members) (words : List (String Global)) (fault : OptionFault) (line : List ℕ)

@@ -1,19 +1,17 @@
-//! The description of a simulated line: TOML with a default for every key.
+//! The description of a simulated line: TOML with a default for every key, read from a source, with options that change it.
 //!
 //! [`Plan::read`] reads a text. What its clauses promise (`specs/Descriptions.antt`):
 //!
-//! - `plan`: the text is TOML, each table has known keys alone (`plan_fields/specs/Keys.antt`), and the plan is that of `specs/Plans.antt`, with the
+//! - `plan`: the text is TOML, each table has known keys alone (`plan_tables/specs/Keys.antt`), and the plan is that of `specs/Plans.antt`, with the
 //!   defaults and the limits of each key.
 //! - `fault`: the first thing that is wrong, with its line and its column: that the text is no TOML, a key that its table may not have, with the nearest
 //!   known one, or a value that does not fit its key, with what fits.
 //!
-//! Times are whole seconds in a plan, chances ten-thousandths. `plan_fields` has the values of keys and the faults, `plan_tables` the tables.
-//! `docs/LINE-DESCRIPTION.md` has the language.
-//!
-//! The description of a line as a program reads it: from a source, with options that change it.
-//!
 //! [`read_plan`] reads a text, and gives its plan with the values that options such as `--set place.loss=5` and `--seed 7` give. What is wrong is one line of
 //! text ([`NoPlan`]): with its place in the text where the text is wrong by itself, else without one.
+//!
+//! Times are whole seconds in a plan, chances ten-thousandths. `plan_tables` has the tables, the values of keys and the faults.
+//! `docs/LINE-DESCRIPTION.md` has the language.
 #![tactic(auto)]
 
 mod input;

@@ -5,9 +5,9 @@ ghost use Rattle.line_plan.specs.Descriptions.{IsPlanOf};
 ghost use Rattle.line_plan.specs.OptionDescriptions.{IsPlanBy, IsPlanWith, IsDescribed, IsBadBy, IsBadWith, IsRefused, IsBadText, IsFaultLine, IsOptionLine};
 ghost use Rattle.line_plan.specs.OptionDescriptions.{cause_line, word_at, no_plan};
 
+use crate::Plan;
 use crate::input::{InputFault, read_text};
 use crate::options::{OptionFault, with_options};
-use line_plan::Plan;
 use plan_tables::{Cause, PlanFault};
 use plc_base::Source;
 use std::alloc::{AllocError, Global};

@@ -9,8 +9,10 @@ ghost use Rattle.line_plan.specs.Plans.{air_of, joining_of, readings_of, rotatio
 ghost use Rattle.line_plan.specs.Plans.{head_at, is_control, is_line, title_in, title_at, place_of};
 ghost use Rattle.line_plan.specs.Plans.{not_tables, incident_in, incidents_from, incidents_in, incidents_at, plan_at};
 
-use plan_tables::{Fields, Key, Section, Wanted, WrongValue};
-use plan_tables::{AirPlan, Care, Incident, Joining, PlacePlan, Readings, Rotation};
+use plan_tables::{
+    AirPlan, Care, Fields, Incident, Joining, Key, PlacePlan, Readings, Rotation, Section, Wanted,
+    WrongValue,
+};
 use std::alloc::{AllocError, Global};
 use std::marker::Model;
 use toml::Value;

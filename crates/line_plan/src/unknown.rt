@@ -5,8 +5,7 @@ ghost use Rattle.line_plan.specs.Unknowns.{is_known, stranger, unknown_view, unk
 ghost use Rattle.line_plan.specs.Unknowns.{incident_keys, unknown_of_incident, unknown_of_incidents, unknown_among, unknown_of_owner, unknown_of_line};
 ghost use Rattle.line_plan.specs.Unknowns.{unknown_in, nearest_of};
 
-use plan_tables::{Fields, Key, KeySet, Section};
-use plan_tables::{PlaceKind, WhatKind, kind_at, what_at};
+use plan_tables::{Fields, Key, KeySet, PlaceKind, Section, WhatKind, kind_at, what_at};
 use std::alloc::{AllocError, Global};
 use strsim::levenshtein;
 use toml::{Table, Value};

@@ -6,12 +6,12 @@ ghost use Rattle.line_record.specs.Lists.{changed_at};
 ghost use Rattle.line_record.specs.Marks as story_marks;
 ghost use Rattle.line_record.specs.NodeItems as node_items;
 
-use frame_facts::Gist;
-use line_events::Answer;
-use line_record::{
+use crate::{
     Act, Course, Kept, KeptEnd, RecordedEvent, RecordedFlight, Story, actor_of, end_of, ended_so,
     is_kept_of, is_message, is_piece_held, is_still, left, makes_message, sends, with_kept,
 };
+use frame_facts::Gist;
+use line_events::Answer;
 use std::alloc::{AllocError, Global};
 
 // What begins to be kept at an event, by the node that the event is about.

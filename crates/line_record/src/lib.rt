@@ -1,7 +1,9 @@
-//! The record of a run as a value: which line asked for which event, how the event ended, and whom each flight is for and what it is about.
+//! The record of a run as a value, and what is read off it: which of its events belong together, what became of each flight, how each story
+//! ended, and what nodes were over time.
 //!
-//! A record keeps no octets of datagrams, frames and keys: an event takes some 60 octets, a flight some 40. Who runs a script pushes each
-//! event that was taken, and then its new flights, so events and flights have their numbers by their places, counted from 1.
+//! **The record**: which line asked for which event, how the event ended, and whom each flight is for and what it is about. It keeps no octets of
+//! datagrams, frames and keys: an event takes some 60 octets, a flight some 40. Who runs a script pushes each event that was taken, and then its
+//! new flights, so events and flights have their numbers by their places, counted from 1.
 //!
 //! ```text
 //! let mut run_record = RunRecord::new(alloc);
@@ -12,17 +14,12 @@
 //! }
 //! ```
 //!
-//! Beside it stands what there is of stories as values: of which kind an event is to a story, what an event says of a story and of a flight, and
-//! the verdict of a story. Which story owns what is found above (`line_stories`).
+//! `specs/Acts.antt` says what is kept of an event, `specs/RunRecords.antt` what a record is.
 //!
-//! `specs/Acts.antt` says what is kept of an event, `specs/RunRecords.antt` what a record is, `specs/Kinds.antt` what events and answers are to a story,
-//! `specs/Marks.antt` what becomes of a story and a flight at an event, and `specs/Verdicts.antt` what became of each story.
-//!
-//! What became of each thing that somebody asked of a line: its story.
-//!
-//! A story is a datagram on its way, a joining, a renewal of keys, an order, octets that no node sent, a broadcast, a path request, the setup,
-//! or what happens on the line by itself. Each event and each flight has one that owns it. While the stories are found, what became of each
-//! flight at the node that it is for is found too: it went on, or was refused, lost or missed.
+//! **Stories**: what became of each thing that somebody asked of a line. A story is a datagram on its way, a joining, a renewal of keys, an order,
+//! octets that no node sent, a broadcast, a path request, the setup, or what happens on the line by itself. Each event and each flight has one
+//! that owns it. While the stories are found, what became of each flight at the node that it is for is found too: it went on, or was refused,
+//! lost or missed.
 //!
 //! ```text
 //! let run_stories = stories_of(alloc, &run_record)?;
@@ -35,11 +32,11 @@
 //! }
 //! ```
 //!
-//! What an event says of a story, and the verdict of a story, stand in `line_record`. `specs/Stories.antt` says which story owns which event and
-//! which flight.
+//! `specs/Kinds.antt` says what events and answers are to a story, `specs/Marks.antt` what becomes of a story and a flight at an event,
+//! `specs/Stories.antt` which story owns which event and which flight, and `specs/Verdicts.antt` what became of each story.
 //!
-//! What nodes were over a run: whether they were joined, with which key they sealed, and when that changed; and which way their frames to the
-//! coordinator went at its end.
+//! **Pasts**: whether a node was joined, with which key it sealed, and when that changed; and which way its frames to the coordinator went at the
+//! end.
 //!
 //! ```text
 //! pasts.push_node()?;

@@ -4,7 +4,7 @@ ghost use Rattle.line_record.specs.RunRecords.{numbered};
 ghost use Rattle.line_record.specs.Kinds.{goes_on_with, is_setup};
 ghost use Rattle.line_record.specs.Stories as spec_stories;
 
-use line_record::{
+use crate::{
     Act, Course, Story, StoryKind, begins, goes_on_with, is_line, is_setup, is_setup_kind,
     new_story,
 };

@@ -2,8 +2,8 @@
 ghost use Rattle.std.specs.Prelude.{◌≡◌, ◌<◌, ◌+◌, ◌++◌, IfOk, IfSome, OnOk, OnErr, length};
 ghost use Rattle.line_record.specs.Stories as spec_stories;
 
+use crate::Story;
 use crate::place::{line_place, take_place};
-use line_record::Story;
 use std::alloc::AllocError;
 
 /// Whether what prepares a node prepares the joining that comes next, if one comes.

@@ -12,13 +12,13 @@ use crate::keeping::{
 };
 use crate::place::{place_of, take_place};
 use crate::readiness::{push_owners, take_line, unready};
-use frame_facts::{FrameTarget, Gist};
-use line_events::Answer;
-use line_record::{
+use crate::{
     Act, Course, Fate, Kept, RecordedEvent, RecordedFlight, RunRecord, Story, actor_of, came,
     change_courses, joins, keeps_joinings, made_by, makes_node, marked, may_end, person_of,
     prepares, sends,
 };
+use frame_facts::{FrameTarget, Gist};
+use line_events::Answer;
 use std::alloc::{AllocError, Global};
 use std::marker::Model;
 

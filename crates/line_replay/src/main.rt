@@ -1,9 +1,7 @@
 //! Runs whole nodes on a line, from a script or as a drill. It also shows frames, and what the ciphers make.
 //!
-//! The text of the command `vectors`: what the ciphers make of known inputs, most of them those of the standards.
-//!
-//! The text has a line for each known input: a name, a space, the value that the ciphers compute in lower-case hexadecimal,
-//! and a line feed. Whoever reads it can compare it with the standards.
+//! The text of the command `vectors` has a line for each known input, most of them those of the standards (`vectors.rt`): a name, a space, the
+//! value that the ciphers compute in lower-case hexadecimal, and a line feed. Whoever reads it can compare it with the standards.
 #![tactic(auto)]
 
 use plc_base::{StdSink, StdSource};

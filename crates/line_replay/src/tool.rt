@@ -13,13 +13,13 @@ ghost use Rattle.line_replay.specs.VectorsText.{vectors_text};
 use crate::drill::drill_text;
 use crate::replay::Replay;
 use crate::show::Show;
+use crate::vectors_text;
 use line_laws::every_network_run_is_right;
 use line_script::number_within;
 use plc_base::{Sink, Source};
-use script_runs::{Status, status_of, write_whole};
 use run_laws::every_run_is_lawful;
 use script_lines::{a_run_may_end_without_memory, run};
-use crate::vectors_text;
+use script_runs::{Status, status_of, write_whole};
 use std::alloc::{AllocError, Global};
 
 /// Reads a script from the source, and writes its report to the sink: a quiet one without the octets of the flights.

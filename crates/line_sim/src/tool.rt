@@ -8,9 +8,8 @@ ghost use Rattle.line_sim.specs.Tool.{status_of, EndsRun, Ends, EndsPlan, Runs, 
 
 use crate::command::{Mode, command_of};
 use crate::recorder::Recorder;
-use line_plan::Plan;
+use line_plan::{NoPlan, Plan, read_plan};
 use line_simulation::{Made, Simulation, has_attackers};
-use line_plan::{NoPlan, read_plan};
 use plc_base::{Sink, Source};
 use script_runs::{Status, write_whole};
 use std::alloc::{AllocError, Global};

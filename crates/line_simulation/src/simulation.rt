@@ -6,8 +6,7 @@ use crate::work::Job;
 use air_draws::Draws;
 use line_air::{Air, Calendar};
 use line_figures::{Figures, FrameKind};
-use line_owner::Asked;
-use line_owner::Owner;
+use line_owner::{Asked, Owner};
 use line_plan::Plan;
 use std::alloc::Global;
 

@@ -8,14 +8,15 @@ ghost use Rattle.line_view.specs.Checked.{Looked, LooksLast, Stepped};
 ghost use Rattle.line_view.specs.CheckRuns as spec_check_runs;
 ghost use Rattle.script_runs.specs.TakenLines.{event_taking};
 
-use script_faults::{BadEvent, FirstOther, Made};
 use line_events::{Event, MAX_EVENTS, StepFault};
 use line_record::{RecordedEvent, act_of, is_setup, recorded_event};
 use line_script::{Reading, Reason, read_line};
 use line_world::{Buffers, World};
 use plc_base::Eui;
-use script_faults::{line_finding, word_of_reason};
-use script_faults::{Finding, push_finding, push_object, push_unseen};
+use script_faults::{
+    BadEvent, Finding, FirstOther, Made, line_finding, push_finding, push_object, push_unseen,
+    word_of_reason,
+};
 use sentence_parts::{number, push_parts, words};
 use std::alloc::{AllocError, Global};
 use std::marker::Model;

@@ -8,12 +8,11 @@ use crate::run_machine::{Finding, RunMachine, forged_if};
 use crate::run_sentences::{MOST_NODES, RunSentences, nothing_shown};
 use line_events::Event;
 use line_record::{
-    Act, Ends, RecordedEvent, actor_of, ends_of, is_for_another, makes_node, person_of,
+    Act, Ends, Pasts, RecordedEvent, RunStories, actor_of, ends_of, is_for_another, makes_node,
+    person_of, stories_of,
 };
 use line_script::Reason;
-use line_record::{RunStories, stories_of};
 use line_world::Buffers;
-use line_record::Pasts;
 use node_rules::Shown;
 use run_charts::ChartRun;
 use run_pages::{Remarks, Sheet};

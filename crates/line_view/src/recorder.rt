@@ -8,8 +8,7 @@ ghost use Rattle.script_runs.specs.TakenLines.{event_taking};
 ghost use Rattle.line_view.specs.Recordings as recordings;
 
 use aes_modes::Aes;
-use frame_facts::{FlightMore, decrypt_octets, more_of};
-use frame_facts::frame_target;
+use frame_facts::{FlightMore, decrypt_octets, frame_target, more_of};
 use line_events::{Answer, Event, Happenings, MAX_EVENTS, StepFault};
 use line_record::{Counters, RunRecord};
 use line_script::Reason;

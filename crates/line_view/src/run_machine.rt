@@ -12,8 +12,8 @@ use line_events::Event;
 use line_script::{LINE_OCTETS, Reading, Reason, read_line};
 use line_world::Buffers;
 use plc_base::Sink;
-use script_runs::Status;
 use script_lines::{LineKind, LineMachine, StopReason};
+use script_runs::Status;
 use std::alloc::AllocError;
 use std::marker::Model;
 

@@ -18,8 +18,8 @@ use crate::page::Page;
 use crate::run_machine::{Lines, RunMachine, found_status};
 use line_script::number_within;
 use plc_base::{Sink, Source};
-use script_runs::{Status, status_of, write_whole};
 use script_lines::{a_run_may_end_without_memory, run};
+use script_runs::{Status, status_of, write_whole};
 use std::alloc::{AllocError, Global};
 use story_accounts::Chosen;
 

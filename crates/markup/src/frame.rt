@@ -3,8 +3,7 @@ ghost use Rattle.std.specs.Prelude.{◌≡◌, ◌++◌, OnOk};
 ghost use Rattle.markup.specs.Frames as frames;
 
 use crate::style::push_style;
-use markup::{Attribute, Element};
-use markup::{end, given, leaf, open, push_pieces, start, text};
+use crate::{Attribute, Element, end, given, leaf, open, push_pieces, start, text};
 use std::alloc::AllocError;
 
 // Nothing is loaded and nothing runs.

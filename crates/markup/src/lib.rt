@@ -1,21 +1,19 @@
-//! HTML and SVG, written piece by piece: text and attributes with everything escaped, tags that close what they open.
+//! HTML and SVG, written piece by piece: text and attributes with everything escaped, tags that close what they open; and what the pages of a run
+//! are framed by.
 //!
-//! `specs/ElementTexts.antt` says which octets each call appends, and `specs/HtmlReader.antt` follows octets through a page, octet by
-//! octet. Whatever a text holds, it opens nothing and ends nothing.
-//!
-//! Markup, put together from pieces, as one list of them: a tag, an attribute, a text, a number.
+//! Markup is put together from pieces, as one list of them: a tag, an attribute, a text, a number.
 //!
 //! ```text
 //! push_pieces(out, &[start(Element::Division), given(Attribute::Class, "tile"), open(), count(3), end(Element::Division)])?;
 //! // <div class="tile">3</div>
 //! ```
 //!
-//! A contract sees what such pieces are together: `specs/Markups.antt` says what markup is, elements in elements with texts between them, and
-//! which octets it has. Whatever its texts hold, it closes all that it opens, and nothing else (`laws`).
+//! `specs/ElementTexts.antt` says which octets each call appends, and `specs/HtmlReader.antt` follows octets through a page, octet by octet: whatever
+//! a text holds, it opens nothing and ends nothing. A contract sees what such pieces are together: `specs/Markups.antt` says what markup is, elements in
+//! elements with texts between them, and which octets it has. It closes all that it opens, and nothing else (`part_laws`).
 //!
-//! The frame of a page of HTML: its head with the style, and its end.
-//!
-//! A page loads nothing and runs nothing: its policy forbids all but the one style that is in it.
+//! The frame of a page is its head with the style, and its end ([`push_page_start`], [`push_page_end`]; `specs/Frames.antt`, `specs/FrameLaws.antt`). A page
+//! loads nothing and runs nothing: its policy forbids all but the one style that is in it.
 //!
 //! ```text
 //! push_page_start(&mut out, "A run")?;
@@ -23,17 +21,13 @@
 //! push_page_end(&mut out)?;
 //! ```
 //!
-//! `specs/Frames.antt` has what is appended, `specs/Laws.antt` what holds of it: a page closes all that it opens.
-//!
-//! The parts of a page: headings, bands, tiles with counts, and the line above the chart of a story.
+//! Its parts are headings, bands, tiles with counts, and the line above the chart of a story; `specs/Parts.antt` says which markup each of them is.
 //!
 //! ```text
 //! push_heading(&mut out, "Datagrams")?;
 //! push_share(&mut out, 38, 60, "datagrams came")?;
 //! // <h2>Datagrams</h2><div class="tile r"><b>38 / 60</b><span>datagrams came</span></div>
 //! ```
-//!
-//! `specs/Parts.antt` says which markup each of them is. Their classes are those of the style of `page_frame`.
 #![tactic(auto)]
 
 mod escape;

@@ -3,8 +3,7 @@ ghost use Rattle.std.specs.Prelude.{◌≡◌, ◌++◌, OnOk};
 ghost use Rattle.markup.specs.Markups.{markup_text};
 ghost use Rattle.markup.specs.Parts as parts;
 
-use markup::{Attribute, Element};
-use markup::{count, end, given, open, push_pieces, start, text};
+use crate::{Attribute, Element, count, end, given, open, push_pieces, start, text};
 use std::alloc::AllocError;
 
 /// Appends the heading of a section. It fails only where memory runs out, as all of these calls.

@@ -2,10 +2,10 @@
 ghost use Rattle.std.specs.Prelude.{◌≡◌, ◌++◌, OnOk};
 ghost use Rattle.markup.specs.Pieces.{piece_text, pieces_text};
 
-use itoa::Buffer;
-use markup::{
+use crate::{
     Attribute, Element, close_element, close_tag, end_leaf, open_tag, push_attribute, push_text,
 };
+use itoa::Buffer;
 use plc_base::OctetRef;
 use std::alloc::AllocError;
 

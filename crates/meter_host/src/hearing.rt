@@ -4,8 +4,7 @@ ghost use Rattle.meter_host.specs.CallEffects.{up_of, is_joined_by, joined_by, H
 
 use crate::hosting::Host;
 use crate::making::ended;
-use host_calls::{Given, Status};
-use host_calls::ItemOctets;
+use host_calls::{Given, ItemOctets, Status};
 use node_rules::{Came, Heard, MeterHeard, Unheard};
 use plc_base::{LONGEST_DATAGRAM, LinkCost, Short};
 use plc_station::Buffers;

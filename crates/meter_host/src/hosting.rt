@@ -11,9 +11,8 @@ ghost use Rattle.plc_base.specs.Streams.{HasWritten};
 ghost use Rattle.host_calls.specs.Answers.{answer_text};
 ghost use Rattle.meter_host.specs.ItemCalls.{Called, Answers, puts_in, NotOpened};
 
-use host_calls::{Given, Status, read_call, write_answer};
+use host_calls::{Given, OutboxKeeper, Status, read_call, write_answer};
 use meter_node::Meter;
-use host_calls::OutboxKeeper;
 use plc_base::{Eui, Failed, Key, Sink};
 use plc_station::{Buffers, OpenFault};
 use std::alloc::Global;

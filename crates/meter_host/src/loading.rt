@@ -8,8 +8,7 @@ ghost use Rattle.routing_set.specs.RoutingSet.{ranks};
 ghost use Rattle.meter_host.specs.LoadedRecords.{Follows, IsLoaded};
 
 use byteorder::{BigEndian, ByteOrder};
-use host_calls::Status;
-use host_calls::OutboxKeeper;
+use host_calls::{OutboxKeeper, Status};
 use plc_base::{Keeper, Record};
 use std::alloc::{AllocError, Global};
 use std::marker::Model;

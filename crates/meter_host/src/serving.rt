@@ -6,8 +6,7 @@ ghost use Rattle.host_calls.specs.Answers.{status_text};
 
 use crate::hosting::Host;
 use crate::loading::Loading;
-use host_calls::{Given, Status, write_status};
-use host_calls::{ItemFault, ItemOctets, read_item};
+use host_calls::{Given, ItemFault, ItemOctets, Status, read_item, write_status};
 use plc_base::{Eui, Key, Sink, Source, octets_at};
 use plc_station::Buffers;
 use std::alloc::Global;

@@ -20,7 +20,7 @@ ghost use Rattle.meter_node.specs.MeterStates.{node_of};
 ghost use Rattle.meter_node.specs.MeterAnswers as meter_answers;
 
 use crate::meter::Meter;
-use crate::goes_up;
+use crate::relaying::goes_up;
 use joining_base::{CommandBuf, command_length, dropped_send, push_up, write_command};
 use joining_messages::{JoinBody, JoinMessage};
 use node_rules::{Dropped, MeterHeard, SendRefusal, SentHow};

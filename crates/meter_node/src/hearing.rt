@@ -16,8 +16,8 @@ ghost use Rattle.meter_node.specs.Sessions.{session_way_of};
 ghost use Rattle.meter_node.specs.MeterAnswers as meter_answers;
 
 use crate::meter::Meter;
+use crate::relaying::goes_down;
 use crate::session::SessionWay;
-use crate::goes_down;
 use joining_base::{joining_command, push_down, read_message};
 use joining_messages::{JoinBody, JoinMessage};
 use node_rules::{Dropped, Heard, MeterHeard, RingRefusal, Way};

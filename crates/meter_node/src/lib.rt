@@ -26,13 +26,8 @@
 //! For example, `join` puts JOIN into `out`; the challenge is accepted by the station and heard, and the answer is in `out`
 //! (`MeterHeard::Replied`); the grant is heard and installed (`MeterHeard::Took`). `docs/CRATES.md` has the code.
 //!
-//! What a joined meter does as an agent: it carries the joining messages of its neighbours up to the coordinator, and what the
-//! coordinator says down to them (ITU-T G.9903, joining through an agent).
-//!
-//! [`relay_up`] writes the body of the command that carries a node's JOIN up, and [`relay_down`] the plain frame that carries a CHALLENGE,
-//! an ACCEPT or a DECLINE down; the message is the same message (`command`, `frame`). NotRelayed comes exactly for the other bodies
-//! (`carried`), of which [`goes_up`] and [`goes_down`] say beforehand. Nothing is kept and no memory is taken: an agent knows nothing of
-//! the joinings that it carries, and checks no tag.
+//! A joined meter is an agent too (ITU-T G.9903, joining through an agent): it carries JOIN of its neighbours up to the coordinator, and
+//! CHALLENGE, ACCEPT and DECLINE down to them. It keeps nothing of the joinings that it carries, and checks no tag of them.
 #![tactic(auto)]
 
 mod challenges;

@@ -11,17 +11,17 @@ use thiserror::Error;
 /// The joining message is not one that an agent carries this way.
 #[derive(Clone, Copy, Debug, PartialEq, Eq, Error)]
 #[error("no agent carries this joining message this way")]
-pub struct NotRelayed;
+pub(crate) struct NotRelayed;
 
 /// Whether an agent carries a message with this body up: a JOIN.
-pub fn goes_up(body: &JoinBody) -> bool
+pub(crate) fn goes_up(body: &JoinBody) -> bool
     ensures { result ≡ goes_up body.now }
 {
     matches!(body, JoinBody::Join { .. })
 }
 
 /// Whether an agent carries a message with this body down: a CHALLENGE, an ACCEPT or a DECLINE.
-pub fn goes_down(body: &JoinBody) -> bool
+pub(crate) fn goes_down(body: &JoinBody) -> bool
     ensures { result ≡ goes_down body.now }
 {
     matches!(
@@ -34,7 +34,7 @@ pub fn goes_down(body: &JoinBody) -> bool
 /// held.
 ///
 /// NotRelayed exactly where the message is no JOIN; `out` is then empty.
-pub fn relay_up(message: &JoinMessage, out: &mut FrameBuf) -> Result<(), NotRelayed>
+pub(crate) fn relay_up(message: &JoinMessage, out: &mut FrameBuf) -> Result<(), NotRelayed>
     requires { IsMessage message.now }
     ensures carried { MatchResult result (λ _. goes_up message.now.body ≡ true)
         (λ _. goes_up message.now.body ≡ false) }
@@ -54,7 +54,11 @@ pub fn relay_up(message: &JoinMessage, out: &mut FrameBuf) -> Result<(), NotRela
 /// replaces what `out` held. `agent` is the agent's short address.
 ///
 /// NotRelayed exactly where the message is none of the three; `out` is then empty.
-pub fn relay_down(message: &JoinMessage, agent: Short, out: &mut FrameBuf) -> Result<(), NotRelayed>
+pub(crate) fn relay_down(
+    message: &JoinMessage,
+    agent: Short,
+    out: &mut FrameBuf,
+) -> Result<(), NotRelayed>
     requires { IsMessage message.now }
     ensures carried { MatchResult result (λ _. goes_down message.now.body ≡ true)
         (λ _. goes_down message.now.body ≡ false) }

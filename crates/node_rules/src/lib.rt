@@ -17,21 +17,15 @@
 //! - Tables keep their places ([`plans_write_in_place`], [`carrying_out_keeps_tables`]), and the coordinator's ring its address
 //!   ([`carrying_out_keeps_home`]).
 //!
+//! - Puts may be stored after the call that made them (`outbox_laws`). A node over a keeper that lists its puts (`OutboxKeeper` of `host_calls`)
+//!   writes nothing itself; its owner stores the puts that are listed, in order, and then sends the frames, and where a store fails it sends
+//!   none. The node then does what it does over the store itself, whichever put fails, and a loss of power in between leaves records that the
+//!   call itself could have left, with no frame sent ([`deferring_puts`]). The list has what the call put, in order
+//!   ([`listed_puts_are_the_plans`]), so it is enough to store the list ([`listed_puts_are_deferred`]). A call makes at most four puts
+//!   ([`hearing_puts_few`], [`sending_puts_few`], [`joining_puts_few`], [`orders_put_few`]).
+//!
 //! No rule reads a clock, draws a random value or knows of other nodes. What holds of whole lines is `line_laws`; that code follows the rules is
-//! `plc_station`, `meter_node` and `coordinator`.
-//!
-//! Why puts may be stored after the call that made them, and how many there are: the laws behind `outbox_keeper`.
-//!
-//! A node over an `OutboxKeeper` writes nothing itself. After each call its owner stores the puts that are listed, in order, and then sends
-//! the frames; where a store fails it sends none. Each law is an empty function whose clause is the law:
-//!
-//! - [`deferring_puts`]: the node then does what it does over the store itself, whichever put fails, and a loss of power in between leaves
-//!   records that the call itself could have left, with no frame sent.
-//! - [`listed_puts_are_the_plans`]: over a keeper that lists its puts, the list has what the call put, in order.
-//! - [`listed_puts_are_deferred`]: both together, so it is enough to store the list.
-//! - [`hearing_puts_few`], [`sending_puts_few`], [`joining_puts_few`], [`orders_put_few`]: a call makes at most four puts.
-//!
-//! The first three are over `Carries` of `node_rules`, which the calls of a node ensure (`carries`).
+//! `plc_station`, `meter_node` and `coordinator`, whose calls ensure `Carries` (`carries`).
 #![tactic(auto)]
 
 mod heard;
@@ -57,7 +51,7 @@ pub use laws::{
 pub use octet_laws::{
     the_network_opens_octets, the_network_opens_what_it_seals, unreads_are_octets,
 };
-pub use crate::{
+pub use outbox_laws::{
     deferring_puts, hearing_puts_few, joining_puts_few, listed_puts_are_deferred,
     listed_puts_are_the_plans, orders_put_few, sending_puts_few,
 };

@@ -1,17 +1,15 @@
-//! The tables of a description of a simulated line, each as a value: place, air, joining, readings, changes of the key, care, incidents.
-//!
-//! Each is read from the [`Fields`](crate::Fields) of its table: what its clauses promise is that the value is that of the definitions, with the
-//! default and the limits of each key, or that the first key whose value does not fit is the fault (`specs/Tables.antt`, `AirPlans.antt`, `Links.antt`,
-//! `Places.antt`, `Incidents.antt`). The rate, the air's settings and the owner's times are plain values: no other crate of a simulated line is named but
-//! `line_place`, whose layouts a place is.
-//!
-//! The tables of a description of a simulated line: keys, values of keys, what is wrong with one, and its place in the text.
+//! The tables of a description of a simulated line, each as a value: place, air, joining, readings, changes of the key, care, incidents; and their keys,
+//! the values of keys, what is wrong with one, and its place in the text.
 //!
 //! - [`Key`] and [`KeySet`] have the keys, and which of them a table may have (`specs/Keys.antt`).
 //! - [`Fields`] is a table with its name, or the defaults alone. Its calls read the value of a key: a number within a bound, a time, per cent, true or false.
 //!   A key that is not there has its default; a value that does not fit is a [`WrongValue`] (`specs/Faults.antt`).
 //! - `seconds_of` and `hundredths_of` read times and per cent from octets (`specs/Values.antt`). Times are whole seconds, chances ten-thousandths.
 //! - `place_of` is the line and the column of a key in the text of its table (`specs/TextPlaces.antt`).
+//!
+//! What the clauses of a table promise is that its value is that of the definitions, with the default and the limits of each key, or that the first key
+//! whose value does not fit is the fault (`specs/Tables.antt`, `AirPlans.antt`, `Links.antt`, `Places.antt`, `Incidents.antt`). The rate, the air's settings
+//! and the owner's times are plain values: no other crate of a simulated line is named but `line_place`, whose layouts a place is.
 //!
 //! The readers of values take no memory.
 #![tactic(auto)]

@@ -4,8 +4,8 @@ ghost use Rattle.toml.specs.View.{view};
 ghost use Rattle.plan_tables.specs.Members.{table_of};
 ghost use Rattle.plan_tables.specs.Links.{node_in, cost_part, measured_in, follows, links_from, farthest, has_link, with_meters, rows_in, matrix_at};
 
-use line_place::{Costs, Link, MeasuredLink};
 use crate::{Fields, Key, Wanted, WrongValue, chance_in, number_from_one_to, number_up_to};
+use line_place::{Costs, Link, MeasuredLink};
 use std::alloc::{AllocError, Global};
 use std::marker::Model;
 use toml::Value;

@@ -6,8 +6,8 @@ ghost use Rattle.plan_tables.specs.Places.{cost_named, cost_in, cost_at, kind_na
 ghost use Rattle.plan_tables.specs.Places.{street_at, grid_at, tower_at, scatter_at, losses_at, place_at, meters_of, kind_of, may_reach, may_hear};
 
 use crate::links::{MeasuredLinks, matrix_at};
-use line_place::{Costs, Field, Grid, Losses, Street, Tower};
 use crate::{Fields, Key, Wanted, WrongValue, number_from_one_to};
+use line_place::{Costs, Field, Grid, Losses, Street, Tower};
 use std::alloc::{AllocError, Global};
 use toml::Value;
 

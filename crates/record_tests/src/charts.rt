@@ -1,6 +1,5 @@
 use crate::stories::small;
-use line_record::{Course, Fate};
-use line_record::Pasts;
+use line_record::{Course, Fate, Pasts};
 use run_charts::{ChartRun, push_chart};
 use std::alloc::{AllocError, Global};
 use std::test::Fail;

@@ -2,8 +2,7 @@
 use crate::stories::event;
 use frame_facts::{FrameTarget, Gist, PayloadKind};
 use line_events::Answer;
-use line_record::{Act, RecordedEvent, RecordedFlight, RunRecord};
-use line_record::Pasts;
+use line_record::{Act, Pasts, RecordedEvent, RecordedFlight, RunRecord};
 use node_rules::{Shown, ShownPeers, ShownRoute, ShownRoutes};
 use plc_base::Short;
 use run_maps::{Found, Heard, Link, links_of, push_map, search_of};

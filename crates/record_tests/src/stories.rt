@@ -1,10 +1,9 @@
 use frame_facts::{FrameTarget, Gist, PayloadKind};
 use line_events::Answer;
 use line_record::{
-    Act, Fate, RecordedEvent, RecordedFlight, RunRecord, StoryKind, Verdict, ends_of, flight_come,
-    verdict_of,
+    Act, Fate, RecordedEvent, RecordedFlight, RunRecord, RunStories, StoryKind, Verdict, ends_of,
+    flight_come, stories_of, verdict_of,
 };
-use line_record::{RunStories, stories_of};
 use plc_base::Eui;
 use std::alloc::{AllocError, Global};
 use std::test::Fail;

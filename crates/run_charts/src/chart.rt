@@ -13,8 +13,7 @@ use crate::row::{Row, flight_heard, line_after, members, number_at};
 use crate::run::ChartRun;
 use frame_facts::kind_word;
 use line_record::{Act, RecordedEvent, RecordedFlight, actor_of};
-use markup::{Attribute, Element};
-use markup::{end, given, given_number, open, push_pieces, start, text};
+use markup::{Attribute, Element, end, given, given_number, open, push_pieces, start, text};
 use sentence_parts::{node, sentence};
 use std::alloc::{AllocError, Global};
 

@@ -5,8 +5,9 @@ ghost use Rattle.sentence_parts.specs.Parts.{parts_text};
 ghost use Rattle.run_charts.specs.Drawings as drawings;
 
 use crate::outcome::{Outcome, fill_class, line_class};
-use markup::{Attribute, Element};
-use markup::{count, end, given, given_number, leaf, open, push_pieces, start, text};
+use markup::{
+    Attribute, Element, count, end, given, given_number, leaf, open, push_pieces, start, text,
+};
 use sentence_parts::{Part, number, push_parts, words};
 use std::alloc::{AllocError, Global};
 

@@ -8,10 +8,8 @@ use crate::chart::{is_tick, name};
 use crate::drawing::{push_bar, push_path};
 use crate::outcome::Outcome;
 use crate::run::ChartRun;
-use line_record::RecordedEvent;
-use markup::{Attribute, Element};
-use markup::{count, end, given, given_number, open, push_pieces, start, text};
-use line_record::{Change, Mode};
+use line_record::{Change, Mode, RecordedEvent};
+use markup::{Attribute, Element, count, end, given, given_number, open, push_pieces, start, text};
 use sentence_parts::{number, push_parts, sentence, words};
 use std::alloc::{AllocError, Global};
 

@@ -3,8 +3,7 @@ ghost use Rattle.std.specs.Prelude.{◌≡◌, map, string_bytes};
 ghost use Rattle.line_record.specs.RunRecords.{numbered};
 ghost use Rattle.run_charts.specs.Runs as spec_runs;
 
-use line_record::{Course, Fate, RecordedEvent, RecordedFlight, RunRecord};
-use line_record::Pasts;
+use line_record::{Course, Fate, Pasts, RecordedEvent, RecordedFlight, RunRecord};
 use std::alloc::Global;
 use std::marker::Model;
 

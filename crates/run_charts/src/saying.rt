@@ -11,8 +11,7 @@ use crate::row::{Row, flight_heard, members, number_at};
 use crate::run::{ChartRun, is_missed};
 use line_record::{Act, Course, Fate, RecordedEvent, is_setup, made_by};
 use line_script::answer_word;
-use markup::{Attribute, Element};
-use markup::{count, end, given, given_number, open, push_pieces, start, text};
+use markup::{Attribute, Element, count, end, given, given_number, open, push_pieces, start, text};
 use sentence_parts::{number, sentence, words};
 use std::alloc::{AllocError, Global};
 

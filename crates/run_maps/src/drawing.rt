@@ -5,8 +5,9 @@ ghost use Rattle.run_maps.specs.Maps as maps;
 ghost use Rattle.run_maps.specs.Ties as spec_ties;
 
 use crate::layout::Spot;
-use markup::{Attribute, Element};
-use markup::{count, end, given, given_number, leaf, open, push_pieces, start, text};
+use markup::{
+    Attribute, Element, count, end, given, given_number, leaf, open, push_pieces, start, text,
+};
 use sentence_parts::{number, sentence, words};
 use std::alloc::{AllocError, Global};
 

@@ -9,10 +9,8 @@ use crate::links::{Heard, Links, links_of};
 use crate::route::push_routes;
 use crate::search::search_of;
 use crate::tie::{PlacedTie, has_costs, placed_ties, push_costs_if, push_lines};
-use line_record::RunRecord;
-use markup::{Attribute, Element};
-use markup::{end, given, given_number, open, push_pieces, start};
-use line_record::{Change, Mode, Pasts};
+use line_record::{Change, Mode, Pasts, RunRecord};
+use markup::{Attribute, Element, end, given, given_number, open, push_pieces, start};
 use sentence_parts::{number, sentence, words};
 use std::alloc::{AllocError, Global};
 

@@ -5,9 +5,8 @@ ghost use Rattle.run_maps.specs.Routes as spec_routes;
 
 use crate::drawing::{push_title, straight};
 use crate::layout::{Layout, Spot, is_tree};
-use markup::{Attribute, Element};
-use markup::{end, given, given_number, leaf, open, push_pieces, start};
 use line_record::Pasts;
+use markup::{Attribute, Element, end, given, given_number, leaf, open, push_pieces, start};
 use sentence_parts::{node, sentence, words};
 use std::alloc::{AllocError, Global};
 

@@ -7,12 +7,11 @@ use crate::counting::{count_if, is_kind, is_yes};
 use crate::node_table::push_nodes_table;
 use crate::reasons::push_reasons;
 use line_record::{Course, RecordedEvent, Story, StoryKind, is_good, is_refused};
-use markup::{Attribute, Element};
-use markup::{end, given, given_number, open, push_pieces, start};
-use markup::{push_page_end, push_page_start};
 use markup::{
-    push_band, push_event_numbers, push_fault_tile, push_heading, push_keys, push_map_keys,
-    push_name, push_not_drawn, push_share, push_span, push_tile, push_totals,
+    Attribute, Element, end, given, given_number, open, push_band, push_event_numbers,
+    push_fault_tile, push_heading, push_keys, push_map_keys, push_name, push_not_drawn,
+    push_page_end, push_page_start, push_pieces, push_share, push_span, push_tile, push_totals,
+    start,
 };
 use run_charts::{ChartRun, is_missed, push_chart, push_lanes};
 use run_maps::push_map;

@@ -3,9 +3,10 @@ ghost use Rattle.std.specs.Prelude.{◌≡◌, ◌++◌, IfOk, OnOk, string_byte
 ghost use Rattle.markup.specs.Markups.{markup_text};
 ghost use Rattle.run_pages.specs.Reasons as spec_reasons;
 
-use markup::{Attribute, Element};
-use markup::{count, end, given, open, push_pieces, start, text};
-use markup::{push_heading, push_span, push_subheading};
+use markup::{
+    Attribute, Element, count, end, given, open, push_heading, push_pieces, push_span,
+    push_subheading, start, text,
+};
 use sentence_parts::{number, sentence, words};
 use std::alloc::{AllocError, Global};
 use story_accounts::{Account, Group, SECTIONS, Section, section_title};

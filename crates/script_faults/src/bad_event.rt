@@ -10,11 +10,11 @@ use crate::run::{
     Made, Named, Place, Wanted, first_named, flight_named, joined_row, last_refusal, made_row,
     neighbours, node_with, row_of, second_named, sending_of,
 };
+use crate::{Finding, rest_at, word_at, word_length};
 use line_events::Event;
 use line_record::{RecordedEvent, act_of, is_setup};
 use line_script::{Reason, answer_word};
 use plc_base::Eui;
-use script_faults::{Finding, rest_at, word_at, word_length};
 use sentence_parts::{Part, node, number, octets, words};
 use std::alloc::{AllocError, Global};
 use std::marker::Model;

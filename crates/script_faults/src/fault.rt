@@ -10,8 +10,8 @@ ghost use Rattle.script_faults.specs.Forms as forms;
 ghost use Rattle.script_faults.specs.Places.{IsPlace};
 
 use crate::form::{Form, WordKind, form_of, is_word};
-use line_script::EventKind;
 use crate::space_at;
+use line_script::EventKind;
 
 /// Why a line has no reading.
 #[derive(Clone, Copy, Debug, PartialEq, Eq)]

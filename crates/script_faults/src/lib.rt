@@ -1,21 +1,13 @@
-//! What is wrong with a script: the fault of a line that has no reading, its place, and the word that was meant.
+//! What is wrong with a script, and how that is written: the fault of a line that has no reading, that of an event that a run does not take, the
+//! place of each, and the word that was meant; for people, with the line and a mark under what can't be right, or as an object of JSON.
 //!
 //! ```text
 //! let fault = fault_of(b"deliver 3 0", &mut space);
 //! // Missing { kind: WordKind::Cost }, from 11 to 11
 //! let meant = nearest_kind(alloc, "sned")?;
 //! // EventKind::Send
-//! ```
-//!
-//! `line_finding` says in words what is wrong with a line, and `word_of_reason` why a line ends a run.
-//!
-//! `specs/Forms.antt` has the words of each kind of line and the fault of a line, `specs/Places.antt` says where a fault stands, and
-//! `specs/Nearest.antt` which word is meant.
-//!
-//! What is wrong with a line of a script, and how that is written: for people, with the line and a mark under what can't be right, or as an object of JSON.
-//!
-//! ```text
-//! let found = Finding::new(alloc, 8, 9, &[words("there is no flight "), number(3)], &[words("flights are 1 to 2 here")])?;
+//! let bad = BadEvent { line, event: &event, made: &made, events: &events, flights, sender, other_row, other_text };
+//! let found = bad.finding(alloc, Reason::Flight)?;
 //! push_finding(&mut text, alloc, "flight", 31, b"deliver 3 0 1", &found)?;
 //! // error[flight]: there is no flight 3
 //! //   --> script:31:9
@@ -24,17 +16,10 @@
 //! //    |         ^ flights are 1 to 2 here
 //! ```
 //!
-//! `specs/Findings.antt` says what a finding is, `specs/Texts.antt` how it is written.
-//!
-//! What is wrong with an event that a run does not take: a node or a flight that is not there, a setup that does not fit.
-//!
-//! ```text
-//! let bad = BadEvent { line, event: &event, made: &made, events: &events, flights, sender, other_row, other_text };
-//! let found = bad.finding(alloc, Reason::Flight)?;
-//! // there is no flight 3
-//! ```
-//!
-//! `specs/EventFindings.antt` says what a finding says of each, `specs/Runs.antt` what it takes of the run.
+//! `line_finding` says in words what is wrong with a line, and `word_of_reason` why a line ends a run. `specs/Forms.antt` has the words of each kind
+//! of line and the fault of a line, `specs/Places.antt` says where a fault stands, `specs/Nearest.antt` which word is meant. `specs/Findings.antt` says
+//! what a finding is, `specs/Texts.antt` how it is written, `specs/EventFindings.antt` what one says of each event, and `specs/Runs.antt` what that takes
+//! of the run.
 #![tactic(auto)]
 
 mod bad_event;

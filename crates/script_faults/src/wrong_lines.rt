@@ -14,8 +14,8 @@ use crate::form::{WordKind, form_of};
 use crate::nearest::nearest_kind;
 use crate::wording::{first_words, form_words, other_words, wanted, word_count};
 use crate::wrong_words::{in_lower_case, is_octet, tab, with_form, word_finding, wrong_word};
-use line_script::EventKind;
 use crate::{Finding, rest_at, spaces_at, word_at};
+use line_script::EventKind;
 use sentence_parts::{number, octets, words};
 use std::alloc::{AllocError, Global};
 

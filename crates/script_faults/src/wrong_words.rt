@@ -8,8 +8,8 @@ ghost use Rattle.script_faults.specs.WordFindings as findings;
 
 use crate::form::WordKind;
 use crate::wording::{Shape, form_words, shape_of, wanted};
-use line_script::EventKind;
 use crate::{Finding, rest_at};
+use line_script::EventKind;
 use sentence_parts::{number, octets, words};
 use std::alloc::{AllocError, Global};
 use std::marker::Model;

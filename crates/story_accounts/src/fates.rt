@@ -7,8 +7,7 @@ ghost use Rattle.story_accounts.specs.Fates as spec_fates;
 
 use crate::account::Account;
 use crate::numbers::numbered;
-use frame_facts::FlightMore;
-use frame_facts::{FrameTarget, PayloadKind, kind_word};
+use frame_facts::{FlightMore, FrameTarget, PayloadKind, kind_word};
 use line_record::{Course, Fate, RecordedFlight, actor_of, takes_counter, went_on};
 use line_script::answer_word;
 use sentence_parts::{node, number, place, push_parts, sentence, who_of, words};

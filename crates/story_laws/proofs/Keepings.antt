@@ -344,7 +344,7 @@ module _ (es : List RecordedEvent) (e : RecordedEvent) (s : Stories) (count : se
           absurd (none-some k
           (sym (ap (λ (o : Option ℕ). message_kept o e (length t.owners) story (made_by e flights)) (none_about (makes (ap is_some is)))) ∙ new))
 
--- # A whole run_record
+-- # A whole record
 
 module _ (P : Kept → Type 0) where
   flight_each : (f : RecordedFlight) (t : Stories) → Each P t.keeping → Each P (flight_seen f t).keeping

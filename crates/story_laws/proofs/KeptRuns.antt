@@ -1,4 +1,4 @@
--- An event of a run has not ended what its run_record says is kept still.
+-- An event of a run has not ended what its record says is kept still.
 use Rattle.std.proofs.Common.{◌≡◌, ℕ, zero, suc, ◌+◌, ◌-◌, Bool, true, false, List, [], ◌∷◌, ◌++◌, length, Some, None, Result, Ok, Err}
 use Rattle.std.proofs.Common.{refl, sym, ap, subst, ◌∙◌, arith}
 use Rattle.std.specs.Prelude.{All, if◌then◌else◌, is_some, slice_get}
@@ -107,7 +107,7 @@ makes_none w v d (events.Scan node) e readied = absurd (true_false (sym readied)
 makes_none w v d (events.Choose node k) e readied = absurd (true_false (sym readied))
 makes_none w v d (events.Path from to) e readied = absurd (true_false (sym readied))
 
--- # The run_record of a run
+-- # The record of a run
 
 recorded_none : (w : World) (x : Entry) (e : RecordedEvent) → line_step network w x.event ≡ Ok (x.after, x.trace) → IsRecordedOf x e → MakesNone e
 recorded_none w x e step recorded =

@@ -30,7 +30,7 @@ pub record IsKeptSince (events : List RecordedEvent) (k : Kept) : Type 0 where
 abbrev pub MakesNone : RecordedEvent → Type 0
 MakesNone e = is_some (prepares e.act) ≡ true → makes_message e.answer ≡ false
 
--- what is kept still at the end of a run_record is so since its event
+-- what is kept still at the end of a record is so since its event
 abbrev pub KeptAreSince : Type 0
 KeptAreSince =
     (events : List RecordedEvent) (flights : List RecordedFlight) → All MakesNone events

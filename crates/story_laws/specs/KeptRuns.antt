@@ -30,7 +30,7 @@ abbrev pub left_after : List Entry → World → World
 left_after [] w = w
 left_after (x ∷ xs) w = left_after xs x.after
 
--- Of a run and its run_record, whatever is recorded of its flights: what a story says a node keeps still, an event after the one at which it began has not ended,
+-- Of a run and its record, whatever is recorded of its flights: what a story says a node keeps still, an event after the one at which it began has not ended,
 -- unless nothing says that the node has halted.
 abbrev pub RunsKeepIt : Type 0
 RunsKeepIt =

@@ -18,12 +18,12 @@ pub fn drops_are_ends()
     ensures { DropsAreEnds }
 {}
 
-/// What a node keeps of a story still at the end of a run_record began at its event, and no later event ended it.
+/// What a node keeps of a story still at the end of a record began at its event, and no later event ended it.
 pub fn kept_are_since()
     ensures { KeptAreSince }
 {}
 
-/// Of a run and its run_record: what a story says a node keeps still, an event of the run after the one at which it began has not ended.
+/// Of a run and its record: what a story says a node keeps still, an event of the run after the one at which it began has not ended.
 pub fn runs_keep_it()
     ensures { RunsKeepIt }
 {}

@@ -4,5 +4,6 @@
 mod laws;
 
 pub use laws::{
-    drops_are_ends, ends_are_recorded, kept_are_since, runs_keep_it, recorded_ends_are_so, waits_are_kept,
+    drops_are_ends, ends_are_recorded, kept_are_since, recorded_ends_are_so, runs_keep_it,
+    waits_are_kept,
 };
