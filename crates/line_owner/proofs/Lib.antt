@@ -1,4 +1,5 @@
 mod MessageSenders
 mod Order
 mod Reach
+mod Refreshings
 mod Written

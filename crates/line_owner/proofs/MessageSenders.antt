@@ -19,7 +19,7 @@ use Rattle.std.specs.Prelude.{is_some}
 use Rattle.line_owner.specs.declared.owner.Change.{Change}
 use Rattle.line_owner.specs.declared.acts.Acts.{Acts}
 use Rattle.line_owner.specs.States.{OwnerState, Turned, does, with_node, gives, fails, restores}
-use Rattle.line_owner.specs.Setups.{makes, enters, draws_join, round_at, round_acts_by, puts_round, draws_read}
+use Rattle.line_owner.specs.Setups.{makes, enters, draws_join, round_at, refreshes_before, round_acts_by, puts_round, draws_read}
 use Rattle.line_owner.specs.Joins.{joins_by, joins_with_power, tries_to_join}
 use Rattle.line_owner.specs.Reads.{is_spent, may_speak, misses, leaves_after, gives_reading_up, reads, reads_later, begins_polls, opens_polls, polls_next}
 use Rattle.line_owner.specs.Reads.{ends_poll, polls, answers, replies, refreshes}
@@ -65,7 +65,8 @@ put_round_sends : (o : OwnerState) (round : ℕ) → Sends o (puts_round round o
 unfolding puts_round
 put_round_sends o round =
     either (leb round o.settings.readings.times) (λ _. either (ltb (round_at o.settings round) (micros o.settings.length))
-    (λ _. round_sends o o.settings.readings.way o.settings.readings.refresh round (round_at o.settings round)) (record { sends = tt })) (record { sends = tt })
+    (λ _. round_sends o o.settings.readings.way (refreshes_before o.settings round) round (round_at o.settings round)) (record { sends = tt }))
+    (record { sends = tt })
 
 draw_read_sends : (o : OwnerState) (round node : ℕ) → Sends o (draws_read round node o)
 unfolding draws_read

@@ -1,5 +1,6 @@
 pub mod States
 pub mod Setups
+pub mod Refreshings
 pub mod Joins
 pub mod Reads
 pub mod Changes

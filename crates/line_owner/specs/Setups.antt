@@ -1,5 +1,5 @@
 -- How a line is set up: its nodes, and what is put on the calendar before it begins.
-use Rattle.std.specs.Prelude.{ℕ, ◌-◌, ◌*◌, ◌^◌, min, max, ltb, leb, cond, Bool, length}
+use Rattle.std.specs.Prelude.{ℕ, ◌-◌, ◌*◌, ◌/◌, ◌^◌, min, max, ltb, leb, eqb, ◌&&◌, ◌||◌, cond, Bool, length}
 use Rattle.air_draws.specs.Draws.{below, key_octets}
 use Rattle.plan_tables.specs.declared.tables.Way.{Way}
 use Rattle.plan_tables.specs.declared.tables.Way.TheVariants.{Push, Poll as PollWay}
@@ -44,10 +44,23 @@ draws_join node o =
     (Do (DrawJoins (more node)))))
     (does o (One (Do (PutRounds 1))))
 
+-- how long after the first round of readings a round begins
+unfoldable pub since_first : Settings → ℕ → ℕ
+since_first settings round = min ((round - 1) * micros settings.readings.every) (2 ^ 64 - 1)
+
 -- when a round of readings begins
-unfoldable pub round_at : Settings → ℕ → ℕ
-round_at settings round =
-    later (micros settings.readings.from) (min ((round - 1) * micros settings.readings.every) (2 ^ 64 - 1))
+abbrev pub round_at : Settings → ℕ → ℕ
+round_at settings round = later (micros settings.readings.from) (since_first settings round)
+
+-- in which span of time a round begins, of those after which routes are given anew, counted from the first round on
+abbrev pub refresh_span : Settings → ℕ → ℕ
+refresh_span settings round = since_first settings round / micros settings.readings.refresh_every
+
+-- whether the coordinator gives routes anew before a round: before the first of each span, or before each round where no span is named
+unfoldable pub refreshes_before : Settings → ℕ → Bool
+refreshes_before settings round =
+    settings.readings.refresh && (eqb (micros settings.readings.refresh_every) 0 || (leb round 1
+    || ltb (refresh_span settings (round - 1)) (refresh_span settings round)))
 
 -- who begins a reading: the meters draw when they send, or all are asked
 abbrev pub round_acts_by : Way → Bool → ℕ → ℕ → Acts
@@ -57,7 +70,7 @@ round_acts_by PollWay refresh round at =
     (Two (Put at (BeginPolls round)) (Do (PutRounds (more round))))
 
 abbrev pub round_acts : Settings → ℕ → ℕ → Acts
-round_acts settings round at = round_acts_by settings.readings.way settings.readings.refresh round at
+round_acts settings round at = round_acts_by settings.readings.way (refreshes_before settings round) round at
 
 -- a round begins before the end of the run, as often as all are read
 unfoldable pub puts_round : ℕ → OwnerState → Turned
@@ -66,13 +79,14 @@ puts_round round o =
     cond (leb round o.settings.readings.times) (cond (ltb at (micros o.settings.length)) (does o (round_acts o.settings round at)) (rests o)) (rests o)
 
 -- after a refreshing a reading is sent half a minute later
-abbrev pub after_refresh : Settings → ℕ
-after_refresh settings = cond settings.readings.refresh 30000000 0
+abbrev pub after_refresh : Settings → ℕ → ℕ
+after_refresh settings round = cond (refreshes_before settings round) 30000000 0
 
 unfoldable pub draws_read : ℕ → ℕ → OwnerState → Turned
 draws_read round node o =
     cond (ltb node (length o.members))
     (does (timed o)
-    (Two (Put (later (later (round_at o.settings round) (after_refresh o.settings)) (below (span o.settings.readings.within) o.times * 1000)) (Read node round))
+    (Two (Put (later (later (round_at o.settings round) (after_refresh o.settings round)) (below (span o.settings.readings.within) o.times * 1000))
+    (Read node round))
     (Do (DrawReads round (more node)))))
     (does o (One (Do (PutRounds (more round)))))

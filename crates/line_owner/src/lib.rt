@@ -16,6 +16,8 @@
 //!   `specs/Messages.antt`, `specs/Times.antt`.
 //! - Readings are sent by meters that have joined and have power, what was asked for by meters with power, and questions and receipts go to meters that have
 //!   joined (`only_members_send`).
+//! - Where routes are given anew, no round of readings begins with older ones than was said (`rounds_are_fresh`), and they are given anew once in such a
+//!   span of time (`spans_have_one`).
 //! - The agent that is picked has joined and has power, and it and the meter hear each other (`within_reach`). Agents come in the order of their weights,
 //!   and then of their numbers (`agents_come_in_order`).
 //! - A message is read as it was written (`written_messages_are_read`), as long as meter and round fit into two octets each.
@@ -40,7 +42,7 @@ mod turns;
 pub use acts::{Act, Acts, Command, Notice, Outcome, Saying, Task};
 pub use agents::{Agent, agent_of_turn, agents_come_in_order};
 pub use asked::{Asked, Reading};
-pub use laws::only_members_send;
+pub use laws::{only_members_send, rounds_are_fresh, spans_have_one};
 pub use member::{Choice, Member, Members, Phase, more};
 pub use messages::{Kind, Message, written_messages_are_read};
 pub use owner::{Change, Owner, Polls};

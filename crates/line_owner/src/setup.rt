@@ -1,6 +1,7 @@
 //! How a line is set up.
 ghost use Rattle.std.specs.Prelude.{◌≡◌, ◌<◌};
-ghost use Rattle.line_owner.specs.Setups.{makes, enters, draws_join, span, round_at, round_acts, puts_round, after_refresh, draws_read};
+ghost use Rattle.line_owner.specs.Setups.{makes, enters, draws_join, span, since_first, round_at, refreshes_before, round_acts, puts_round};
+ghost use Rattle.line_owner.specs.Setups.{after_refresh, draws_read};
 
 use crate::owner::Owner;
 use crate::settings::Settings;
@@ -15,16 +16,38 @@ fn span(seconds: u64) -> u32
     millis.min(0xffff_ffff) as u32
 }
 
+// How long after the first round of readings a round begins.
+#[tactic(auto, unfolding(crate::specs::Setups::since_first))]
+fn since_first(settings: &Settings, round: u32) -> u64
+    ensures { result ≡ since_first settings.now round }
+{
+    let before = u64::from(round).saturating_sub(1);
+    before.saturating_mul(micros(settings.readings.every))
+}
+
 // When a round of readings begins.
-#[tactic(auto, unfolding(crate::specs::Setups::round_at))]
 fn round_at(settings: &Settings, round: u32) -> u64
     ensures { result ≡ round_at settings.now round }
 {
-    let before = u64::from(round).saturating_sub(1);
-    later(
-        micros(settings.readings.from),
-        before.saturating_mul(micros(settings.readings.every)),
-    )
+    later(micros(settings.readings.from), since_first(settings, round))
+}
+
+// Whether the coordinator gives routes anew before a round.
+#[tactic(auto, unfolding(crate::specs::Setups::refreshes_before))]
+fn refreshes_before(settings: &Settings, round: u32) -> bool
+    ensures { result ≡ refreshes_before settings.now round }
+{
+    if !settings.readings.refresh {
+        return false;
+    }
+    let span = micros(settings.readings.refresh_every);
+    if span == 0 {
+        return true;
+    }
+    if round <= 1 {
+        return true;
+    }
+    since_first(settings, round - 1) / span < since_first(settings, round) / span
 }
 
 // Who begins a reading.
@@ -32,10 +55,11 @@ fn round_acts(settings: &Settings, round: u32, at: u64) -> Acts
     ensures { result ≡ round_acts settings.now round at }
 {
     let refresh = Act::Put(at, Task::Refresh);
+    let refreshes = refreshes_before(settings, round);
     match settings.readings.way {
         Way::Push => {
             let draw = Act::Do(Task::DrawReads(round, 1));
-            if settings.readings.refresh {
+            if refreshes {
                 return Acts::Two(refresh, draw);
             }
             Acts::One(draw)
@@ -43,7 +67,7 @@ fn round_acts(settings: &Settings, round: u32, at: u64) -> Acts
         Way::Poll => {
             let polls = Act::Put(at, Task::BeginPolls(round));
             let next = Act::Do(Task::PutRounds(more(round)));
-            if settings.readings.refresh {
+            if refreshes {
                 return Acts::Three(refresh, polls, next);
             }
             Acts::Two(polls, next)
@@ -51,10 +75,11 @@ fn round_acts(settings: &Settings, round: u32, at: u64) -> Acts
     }
 }
 
-fn after_refresh(settings: &Settings) -> u64
-    ensures { result ≡ after_refresh settings.now }
+// How much later readings of a round are sent.
+fn after_refresh(settings: &Settings, round: u32) -> u64
+    ensures { result ≡ after_refresh settings.now round }
 {
-    if settings.readings.refresh {
+    if refreshes_before(settings, round) {
         return 30_000_000;
     }
     0
@@ -155,7 +180,7 @@ impl Owner {
         let millis = self.draw_time(span(self.settings.readings.within));
         let begin = later(
             round_at(&self.settings, round),
-            after_refresh(&self.settings),
+            after_refresh(&self.settings, round),
         );
         let at = later(begin, u64::from(millis) * 1_000);
         Acts::Two(

@@ -51,6 +51,7 @@ key_word keys.Way = codes "way"
 key_word keys.Octets = codes "octets"
 key_word keys.Answered = codes "answered"
 key_word keys.Refresh = codes "refresh"
+key_word keys.RefreshEvery = codes "refresh_every"
 key_word keys.AtOnce = codes "at_once"
 key_word keys.Times = codes "times"
 key_word keys.Orders = codes "orders"
@@ -78,7 +79,7 @@ keys_of sets.Air = keys.Rate ∷ keys.Repeats ∷ keys.BreakAfter ∷ keys.Backo
     ∷ keys.JitterMs ∷ keys.AckLoss ∷ keys.Duplicates ∷ keys.Overhear ∷ keys.Collisions ∷ []
 keys_of sets.Joining = keys.How ∷ keys.From ∷ keys.Within ∷ keys.Retry ∷ keys.Tries ∷ []
 keys_of sets.Readings = keys.From ∷ keys.Every ∷ keys.Within ∷ keys.Way ∷ keys.Octets ∷ keys.Answered
-    ∷ keys.Tries ∷ keys.Retry ∷ keys.Refresh ∷ keys.AtOnce ∷ keys.Times ∷ []
+    ∷ keys.Tries ∷ keys.Retry ∷ keys.Refresh ∷ keys.RefreshEvery ∷ keys.AtOnce ∷ keys.Times ∷ []
 keys_of sets.Rotation = keys.AtOnce ∷ keys.Retry ∷ keys.Tries ∷ keys.Orders ∷ keys.Gap ∷ keys.Order ∷ []
 keys_of sets.Care = keys.RejoinAfter ∷ []
 keys_of sets.Power = keys.At ∷ keys.What ∷ keys.Node ∷ keys.Nodes ∷ keys.Meters ∷ keys.For ∷ []

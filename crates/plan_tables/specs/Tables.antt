@@ -1,5 +1,5 @@
 -- What nodes and their owner do, as the tables say it.
-use Rattle.std.specs.Prelude.{ℕ, List, codes, Bool, true, false, if◌then◌else◌, Option, None, Some, Result, Ok}
+use Rattle.std.specs.Prelude.{ℕ, List, codes, Bool, true, false, ltb, if◌then◌else◌, Option, None, Some, Result, Ok}
 use Rattle.std.specs.Str.{bytes_eq}
 use Rattle.std.specs.Option.{option_and_then}
 use Rattle.toml.specs.Data.{Data, as_str}
@@ -70,14 +70,15 @@ times_at table = do
   retry ← seconds_at table keys.Retry 40
   Ok (record { from = from; every = every; within = within; retry = retry })
 
--- what a reading is
+-- what a reading is; that routes are given anew after some time says that they are given
 unfoldable pub content_at : TableAt → Result Content WrongValue
 content_at table = do
   way ← way_at table
   octets ← number_at table keys.Octets 40 1024
   answered ← flag_at table keys.Answered true
-  refresh ← flag_at table keys.Refresh false
-  Ok (record { way = way; octets = octets; answered = answered; refresh = refresh })
+  refresh_every ← seconds_at table keys.RefreshEvery 0
+  refresh ← flag_at table keys.Refresh (ltb 0 refresh_every)
+  Ok (record { way = way; octets = octets; answered = answered; refresh = refresh; refresh_every = refresh_every })
 
 unfoldable pub readings_at : TableAt → Result Readings WrongValue
 readings_at table = do
@@ -96,6 +97,7 @@ readings_at table = do
     tries = tries;
     retry = times.retry;
     refresh = content.refresh;
+    refresh_every = content.refresh_every;
     at_once = at_once;
     times = rounds;
   })

@@ -51,6 +51,7 @@ pub enum Key {
     Octets,
     Answered,
     Refresh,
+    RefreshEvery,
     AtOnce,
     Times,
     Orders,
@@ -117,6 +118,7 @@ impl Key {
             Key::Octets => "octets",
             Key::Answered => "answered",
             Key::Refresh => "refresh",
+            Key::RefreshEvery => "refresh_every",
             Key::AtOnce => "at_once",
             Key::Times => "times",
             Key::Orders => "orders",
@@ -263,7 +265,7 @@ const AIR: [Key; 11] = [
 
 const JOINING: [Key; 5] = [Key::How, Key::From, Key::Within, Key::Retry, Key::Tries];
 
-const READINGS: [Key; 11] = [
+const READINGS: [Key; 12] = [
     Key::From,
     Key::Every,
     Key::Within,
@@ -273,6 +275,7 @@ const READINGS: [Key; 11] = [
     Key::Tries,
     Key::Retry,
     Key::Refresh,
+    Key::RefreshEvery,
     Key::AtOnce,
     Key::Times,
 ];

@@ -53,6 +53,8 @@ pub struct Readings {
     pub retry: u64,
     /// Whether the coordinator first gives every node a route to itself.
     pub refresh: bool,
+    /// After how many seconds it does so again; 0 for before each round.
+    pub refresh_every: u64,
     /// How many meters are asked at one time.
     pub at_once: u64,
     /// How often all are read at most.
@@ -203,6 +205,7 @@ struct Content {
     octets: u64,
     answered: bool,
     refresh: bool,
+    refresh_every: u64,
 }
 
 #[tactic(auto, unfolding(crate::specs::Tables::content_at))]
@@ -212,12 +215,14 @@ fn content_at(fields: &Fields<'_>) -> Result<Content, WrongValue>
     let way = way_at(fields)?;
     let octets = fields.number(Key::Octets, 40, 1_024)?;
     let answered = fields.flag(Key::Answered, true)?;
-    let refresh = fields.flag(Key::Refresh, false)?;
+    let refresh_every = fields.seconds(Key::RefreshEvery, 0)?;
+    let refresh = fields.flag(Key::Refresh, refresh_every > 0)?;
     Ok(Content {
         way,
         octets,
         answered,
         refresh,
+        refresh_every,
     })
 }
 
@@ -244,6 +249,7 @@ impl Readings {
             tries,
             retry: times.retry,
             refresh: content.refresh,
+            refresh_every: content.refresh_every,
             at_once,
             times: rounds,
         })
