@@ -21,8 +21,8 @@
 mod laws;
 mod script_laws;
 
-pub use script_laws::{case_is_not_read, one_line_for_an_event, only_lines_are_read};
 pub use laws::{
     lines_are_in_range, one_line_for_a_text, one_outcome_for_a_report, one_report_for_a_text,
     one_run_for_a_report, reports_are_lines,
 };
+pub use script_laws::{case_is_not_read, one_line_for_an_event, only_lines_are_read};
