@@ -10,9 +10,12 @@ use Rattle.line_plan.specs.Descriptions.{IsPlanIn, IsPlanOf, IsCauseIn}
 use Rattle.line_plan.specs.declared.options.OptionFault.{OptionFault}
 use Rattle.line_plan.specs.declared.options.OptionFault.TheVariants.{Form, NoValue, NoTable, Memory}
 use Rattle.line_plan.specs.declared.option_reading.NoPlan.{NoPlan}
+use Rattle.line_plan.specs.declared.input.InputFault.{InputFault}
+use Rattle.line_plan.specs.declared.input.InputFault.TheVariants as inputs
 use Rattle.line_plan.specs.Options.{with_options, IsChange}
 use Rattle.line_plan.specs.OptionDescriptions.{GivesText, IsOptionLine, cause_line, IsBadBy, Refused, Changed, IsBadWith, WithOptions, Wrong, IsRefused}
-use Rattle.line_plan.specs.OptionDescriptions.{no_plan}
+use Rattle.line_plan.specs.OptionDescriptions.{IsUnread, TooLong, NoText, long_line, no_text_line, no_plan}
+use Rattle.plan_tables.specs.declared.fault.TextPlace.{TextPlace}
 
 -- the line of an option that is refused
 refused : (old : Members) (words : List (String Global)) (fault : OptionFault) (line : List ℕ)
@@ -50,6 +53,22 @@ pub text_wrong : (text : List ℕ) (words : List (String Global)) (alone : Plan)
 text_wrong text words alone old (Ok plan) plans is bad = tt
 text_wrong text words alone old (Err (Ok line)) plans is bad = WithOptions old alone is (right text alone old plans is) bad
 text_wrong text words alone old (Err (Err error)) plans is bad = tt
+
+-- of too many octets, and of octets that are no text
+pub long_refused : (old new : SourceState) (words : List (String Global)) (fault : InputFault) (place : TextPlace) (wrong : Result (String Global) AllocError)
+    (it : NoPlan) → fault ≡ inputs.Long place → it ≡ no_plan wrong → IsUnread old new fault → IfOk wrong (λ line. string_bytes line ≡ long_line place)
+    → IsRefused old new words it
+long_refused old new words fault place (Ok line) it is answer unread said =
+    subst (λ n. IsRefused old new words n) (sym answer) (TooLong place (subst (λ f. IsUnread old new f) is unread) said)
+long_refused old new words fault place (Err error) it is answer unread said = subst (λ n. IsRefused old new words n) (sym answer) tt
+
+pub no_text_refused : (old new : SourceState) (words : List (String Global)) (fault : InputFault) (place : TextPlace)
+    (wrong : Result (String Global) AllocError)
+    (it : NoPlan) → fault ≡ inputs.Text place → it ≡ no_plan wrong → IsUnread old new fault → IfOk wrong (λ line. string_bytes line ≡ no_text_line place)
+    → IsRefused old new words it
+no_text_refused old new words fault place (Ok line) it is answer unread said =
+    subst (λ n. IsRefused old new words n) (sym answer) (NoText place (subst (λ f. IsUnread old new f) is unread) said)
+no_text_refused old new words fault place (Err error) it is answer unread said = subst (λ n. IsRefused old new words n) (sym answer) tt
 
 -- an answer with a line, if there was memory for it
 pub no_plan_of : (old new : SourceState) (words : List (String Global)) (text : List ℕ) (wrong : Result (String Global) AllocError) (it : NoPlan)

@@ -10,10 +10,11 @@ use Rattle.plan_tables.specs.declared.fault.Cause.TheVariants.{Syntax, Unknown, 
 use Rattle.plan_tables.specs.declared.fault.TextPlace.{TextPlace}
 use Rattle.plan_tables.specs.declared.fault.UnknownKey.{UnknownKey}
 use Rattle.line_plan.specs.declared.plan.Plan.{Plan}
-use Rattle.plan_tables.specs.Keys.{key_word, keys_of}
+use Rattle.plan_tables.specs.Keys.{key_word}
 use Rattle.plan_tables.specs.Faults.{TableAt}
+use Rattle.text_signs.specs.Quotes.{quoted_text}
 use Rattle.line_plan.specs.Plans.{plan_at}
-use Rattle.line_plan.specs.Unknowns.{UnknownAt, unknown_in, nearest_of}
+use Rattle.line_plan.specs.Unknowns.{UnknownAt, unknown_in, meant_by}
 use Rattle.plan_tables.specs.TextPlaces.{text_start, place_of, octet_place}
 
 abbrev pub top_of : Members → TableAt
@@ -28,9 +29,10 @@ IsPlanIn members plan = (unknown_in members ≡ None) × (plan_at (top_of member
 abbrev pub unknown_at_of : UnknownKey → UnknownAt
 unknown_at_of unknown = record { section = unknown.section; key = string_bytes unknown.key; known = unknown.known }
 
--- an unknown key, with the nearest of the known ones
+-- an unknown key, as it is quoted, with the known one that may be meant
 abbrev pub IsUnknownAt : UnknownAt → UnknownKey → Type 0
-IsUnknownAt found unknown = (unknown_at_of unknown ≡ found) × (unknown.nearest ≡ nearest_of (keys_of found.known) found.key)
+IsUnknownAt found unknown =
+    (unknown_at_of unknown ≡ found) × (string_bytes unknown.shown ≡ quoted_text found.key) × (unknown.meant ≡ meant_by found.known found.key)
 
 -- the first thing that is wrong with the members
 abbrev pub IsCauseIn : Members → Cause → Type 0

@@ -1,6 +1,7 @@
 -- A description as a program reads it: from a source, with options that change it.
-use Rattle.std.specs.Prelude.{◌≡◌, ℕ, ◌<◌, List, [], ◌++◌, length, codes, Option, None, Some, Result, Ok, Err, String, string_bytes, IsUtf8}
+use Rattle.std.specs.Prelude.{◌≡◌, ℕ, ◌<◌, List, [], ◌++◌, length, take, codes, Option, None, Some, Result, Ok, Err, String, string_bytes, IsUtf8}
 use Rattle.std.specs.List.{slice_get}
+use Rattle.std.specs.Str.Lossy.{utf8_valid_len}
 use Rattle.std.specs.declared.alloc.Global.{Global}
 use Rattle.std.specs.declared.alloc.AllocError.{AllocError}
 use Rattle.std.specs.Io.KnownBytes.{Consumes, IsAtEnd}
@@ -11,9 +12,14 @@ use Rattle.plan_tables.specs.declared.fault.Cause.{Cause}
 use Rattle.plan_tables.specs.declared.fault.PlanFault.{PlanFault}
 use Rattle.plan_tables.specs.declared.fault.PlanFault.TheVariants as faults
 use Rattle.plan_tables.specs.declared.fault.TextPlace.{TextPlace}
-use Rattle.plan_tables.specs.Words.{cause_text, fault_text}
+use Rattle.plan_tables.specs.Words.{cause_text, fault_text, place_text}
+use Rattle.text_signs.specs.Quotes.{quoted_text}
+use Rattle.plan_tables.specs.TextPlaces.{octet_place}
 use Rattle.line_plan.specs.declared.plan.Plan.{Plan}
 use Rattle.line_plan.specs.Descriptions.{IsPlanIn, IsCauseIn, IsFaultOf}
+use Rattle.line_plan.specs.declared.input.TheConstants.{MAX_DESCRIPTION}
+use Rattle.line_plan.specs.declared.input.Given.{Given}
+use Rattle.line_plan.specs.declared.input.Given.TheVariants.{Whole, More}
 use Rattle.line_plan.specs.declared.input.InputFault.{InputFault}
 use Rattle.line_plan.specs.declared.input.InputFault.TheVariants as inputs
 use Rattle.line_plan.specs.declared.options.OptionFault.{OptionFault}
@@ -29,23 +35,31 @@ pub record GivesText (old new : SourceState) (text : List ℕ) : Type 0 where
   pub gave : Consumes old.left new.left text
   pub ended : IsAtEnd new.left
 
--- A source gave more than a description has.
-pub record GivesMore (old new : SourceState) : Type 0 where
+-- A source gave more than a description has, of which the first octet stands at a place.
+pub record GivesMore (old new : SourceState) (place : TextPlace) : Type 0 where
   pub part : List ℕ
   pub gave : Consumes old.left new.left part
-  pub long : 16777216 < length part
+  pub long : MAX_DESCRIPTION < length part
+  pub at : place ≡ octet_place (take MAX_DESCRIPTION part)
 
--- A source gave octets that are no text, and has no more.
-pub record GivesNoText (old new : SourceState) : Type 0 where
+-- what a source gave
+abbrev pub IsGiven : SourceState → SourceState → Given → Type 0
+IsGiven old new (Whole octets) = GivesText old new octets.items
+IsGiven old new (More octets) = Consumes old.left new.left octets.items × (MAX_DESCRIPTION < length octets.items)
+
+-- A source gave octets that are no text, and has no more. The first that no character begins with stands at a place: what is before it is the longest prefix
+-- that is UTF-8.
+pub record GivesNoText (old new : SourceState) (place : TextPlace) : Type 0 where
   pub octets : List ℕ
   pub given : GivesText old new octets
   pub spelled : ¬ IsUtf8 octets
+  pub at : place ≡ octet_place (take (utf8_valid_len octets) octets)
 
 -- why there is no text
 abbrev pub IsUnread : SourceState → SourceState → InputFault → Type 0
 IsUnread old new inputs.Read = SourceRose old new
-IsUnread old new inputs.Long = GivesMore old new
-IsUnread old new inputs.Text = GivesNoText old new
+IsUnread old new (inputs.Long place) = GivesMore old new place
+IsUnread old new (inputs.Text place) = GivesNoText old new place
 IsUnread old new inputs.Memory = Unit {0}
 
 -- # The plan
@@ -73,11 +87,11 @@ pub record IsDescribed (old new : SourceState) (options : List (String Global)) 
 
 -- # What is wrong, as a line
 
-abbrev pub long_line : List ℕ
-long_line = codes "bad description: it has more than 16777216 octets\n"
+abbrev pub long_line : TextPlace → List ℕ
+long_line place = codes "bad description: " ++ place_text place ++ codes ": it has more than 16777216 octets\n"
 
-abbrev pub no_text_line : List ℕ
-no_text_line = codes "bad description: it is no UTF-8\n"
+abbrev pub no_text_line : TextPlace → List ℕ
+no_text_line place = codes "bad description: " ++ place_text place ++ codes ": it is no UTF-8\n"
 
 abbrev pub fault_line : PlanFault → List ℕ
 fault_line fault = codes "bad description: " ++ fault_text fault ++ codes "\n"
@@ -94,10 +108,14 @@ word_text (Some word) = string_bytes word
 abbrev pub word_at : List (String Global) → ℕ → List ℕ
 word_at options place = word_text (slice_get options place)
 
+-- as it is quoted
+abbrev pub quoted_at : List (String Global) → ℕ → List ℕ
+quoted_at options place = quoted_text (word_at options place)
+
 abbrev pub option_line : List (String Global) → OptionFault → List ℕ
-option_line options (Form place) = codes "bad option: " ++ word_at options place ++ codes " is no KEY=VALUE\n"
-option_line options (NoValue place) = codes "bad option: no value of TOML in " ++ word_at options place ++ codes "\n"
-option_line options (NoTable place) = codes "bad option: no table is named before the point in " ++ word_at options place ++ codes "\n"
+option_line options (Form place) = codes "bad option: `" ++ quoted_at options place ++ codes "` is no KEY=VALUE\n"
+option_line options (NoValue place) = codes "bad option: no value of TOML in `" ++ quoted_at options place ++ codes "`\n"
+option_line options (NoTable place) = codes "bad option: no table is named before the point in `" ++ quoted_at options place ++ codes "`\n"
 option_line options Memory = []
 
 -- the line says the fault, which is not lack of memory
@@ -132,8 +150,8 @@ pub data IsBadWith (text : List ℕ) (options : List (String Global)) (line : Li
 
 -- Why what a source gives is no description with options.
 pub data IsBad (old new : SourceState) (options : List (String Global)) (line : List ℕ) : Type 0 where
-  TooLong : GivesMore old new → line ≡ long_line → IsBad old new options line
-  NoText : GivesNoText old new → line ≡ no_text_line → IsBad old new options line
+  TooLong : (place : TextPlace) → GivesMore old new place → line ≡ long_line place → IsBad old new options line
+  NoText : (place : TextPlace) → GivesNoText old new place → line ≡ no_text_line place → IsBad old new options line
   Wrong : (text : List ℕ) → GivesText old new text → IsBadWith text options line → IsBad old new options line
 
 -- why there is no plan

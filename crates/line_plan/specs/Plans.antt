@@ -1,5 +1,5 @@
 -- A description as a whole.
-use Rattle.std.specs.Prelude.{ℕ, ◌==◌, ◌&&◌, ◌||◌, not, nat_lt, nat_le, List, [], ◌∷◌, ◌++◌}
+use Rattle.std.specs.Prelude.{ℕ, ◌&&◌, not, nat_le, List, [], ◌∷◌, ◌++◌}
 use Rattle.std.specs.Prelude.{length, codes, Bool, if◌then◌else◌, Option, None, Some, Result, Ok, Err}
 use Rattle.std.specs.List.{list_any}
 use Rattle.std.specs.Str.{chars}
@@ -25,6 +25,7 @@ use Rattle.plan_tables.specs.AirPlans.{air_at}
 use Rattle.plan_tables.specs.Places.{place_at, meters_of}
 use Rattle.plan_tables.specs.Incidents.{incident_at}
 use Rattle.plan_tables.specs.Links.{listed}
+use Rattle.text_signs.specs.Signs.{is_control}
 
 -- # The tables within the description
 
@@ -64,13 +65,6 @@ head_at top = do
   Ok (record { seed = seed; length = length; air = air; owner = owner })
 
 -- # The title
-
--- Whether a character is a control character of ASCII or of ISO 8859 (C0, DEL, C1), ends a line or a paragraph (2028, 2029), or says which way a text runs
--- (061C, 200E, 200F, 202A to 202E, 2066 to 2069).
-abbrev pub is_control : ℕ → Bool
-is_control c =
-    nat_lt c 32 || (nat_le 127 c && nat_lt c 160) || c == 1564 || (nat_le 8206 c && nat_lt c 8208)
-    || (nat_le 8232 c && nat_lt c 8239) || (nat_le 8294 c && nat_lt c 8298)
 
 -- one line of at most 200 octets: it stands in a remark of the script
 abbrev pub is_line : List ℕ → Bool

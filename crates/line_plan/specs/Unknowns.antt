@@ -1,5 +1,5 @@
 -- The first key that a table may not have.
-use Rattle.std.specs.Prelude.{ℕ, ◌+◌, ◌-◌, ◌^◌, nat_lt, nat_eq, List, [], ◌∷◌, length, Bool}
+use Rattle.std.specs.Prelude.{ℕ, ◌+◌, ◌-◌, ◌/◌, ◌^◌, nat_lt, nat_le, nat_eq, ◌&&◌, List, [], ◌∷◌, length, Bool}
 use Rattle.std.specs.Prelude.{false, ◌||◌, if◌then◌else◌, Option, None, Some, option_map, Result, Ok, Err}
 use Rattle.std.specs.Str.{bytes_eq, chars}
 use Rattle.std.specs.Option.{option_and_then}
@@ -12,12 +12,16 @@ use Rattle.plan_tables.specs.declared.keys.KeySet.TheVariants as sets
 use Rattle.plan_tables.specs.declared.fault.Section.{Section}
 use Rattle.plan_tables.specs.declared.fault.Section.TheVariants as sections
 use Rattle.plan_tables.specs.declared.fault.WrongValue.{WrongValue}
+use Rattle.plan_tables.specs.declared.fault.Meant.{Meant}
+use Rattle.plan_tables.specs.declared.fault.Meant.TheVariants.{Here, There, Nothing}
 use Rattle.plan_tables.specs.declared.places.PlaceKind.{PlaceKind}
 use Rattle.plan_tables.specs.declared.places.PlaceKind.TheVariants as places
 use Rattle.plan_tables.specs.declared.incidents.WhatKind.{WhatKind}
 use Rattle.plan_tables.specs.declared.incidents.WhatKind.TheVariants as incidents
 use Rattle.line_plan.specs.declared.unknown.Unknown.{Unknown}
-use Rattle.plan_tables.specs.Keys.{key_word, keys_of}
+use Rattle.line_plan.specs.declared.unknown.Nearest.{Nearest}
+use Rattle.plan_tables.specs.Keys.{key_word, keys_of, all_tables}
+use Rattle.text_signs.specs.declared.quotes.TheConstants.{MOST_QUOTED}
 use Rattle.plan_tables.specs.Faults.{get_at}
 use Rattle.plan_tables.specs.Places.{kind_at}
 use Rattle.plan_tables.specs.Incidents.{what_at}
@@ -133,17 +137,40 @@ unknown_of_line top =
 unfoldable pub unknown_in : Members → Option UnknownAt
 unknown_in top = or_else (unknown_of_line top) (or_else (unknown_of_owner top) (unknown_among top))
 
--- # The nearest key
+-- # The key that may be meant
 
--- how many edits lead from a key to a known one
+-- how many edits lead from a word to a key
 abbrev pub edits : List ℕ → Key → ℕ
-edits key one = levenshtein_row nat_eq (chars key) (chars (key_word one)) (length (chars (key_word one)))
+edits word key = levenshtein_row nat_eq (chars word) (chars (key_word key)) (length (chars (key_word key)))
 
--- the first with the fewest edits, where one with this many is the nearest before
-abbrev pub nearer : Key → ℕ → List Key → List ℕ → Key
-nearer nearest fewest [] key = nearest
-nearer nearest fewest (one ∷ known) key =
-    if nat_lt (edits key one) fewest then nearer one (edits key one) known key else nearer nearest fewest known key
+-- before any key is looked at
+abbrev pub farthest : Nearest
+farthest = record { known = sets.Top; key = keys.Title; edits = 2 ^ 64 - 1 }
 
-abbrev pub nearest_of : List Key → List ℕ → Key
-nearest_of known key = nearer keys.Title (2 ^ 64 - 1) known key
+abbrev pub nearer : Nearest → Nearest → Nearest
+nearer before next = if nat_lt next.edits before.edits then next else before
+
+-- the nearest after keys of a table too: the first with the fewest edits
+abbrev pub nearest_in : List ℕ → KeySet → Nearest → List Key → Nearest
+nearest_in word known before [] = before
+nearest_in word known before (key ∷ more) =
+    nearest_in word known (nearer before (record { known = known; key = key; edits = edits word key })) more
+
+-- the nearest after the keys of tables too
+abbrev pub nearest_among : List ℕ → Nearest → List KeySet → Nearest
+nearest_among word before [] = before
+nearest_among word before (known ∷ more) = nearest_among word (nearest_in word known before (keys_of known)) more
+
+-- a key is near where two edits lead to it, and the half of the word's octets
+abbrev pub is_near : List ℕ → Nearest → Bool
+is_near word nearest = nat_le nearest.edits 2 && nat_le nearest.edits (length word / 2)
+
+-- one of the same table where it is near, else one of all tables; a word that is longer than what is quoted means none
+abbrev pub meant_by : KeySet → List ℕ → Meant
+meant_by known word =
+    let here = nearest_in word known farthest (keys_of known) in
+    let there = nearest_among word farthest all_tables in
+    if nat_lt MOST_QUOTED (length word) then Nothing
+    else if is_near word here then Here here.key
+    else if is_near word there then There there.known there.key
+    else Nothing

@@ -4,8 +4,8 @@
 //!
 //! - `plan`: the text is TOML, each table has known keys alone (`plan_tables/specs/Keys.antt`), and the plan is that of `specs/Plans.antt`, with the
 //!   defaults and the limits of each key.
-//! - `fault`: the first thing that is wrong, with its line and its column: that the text is no TOML, a key that its table may not have, with the nearest
-//!   known one, or a value that does not fit its key, with what fits.
+//! - `fault`: the first thing that is wrong, with its line and its column: that the text is no TOML, a key that its table may not have, with a known
+//!   one that is near, if any, or a value that does not fit its key, with what fits.
 //!
 //! [`read_plan`] reads a text, and gives its plan with the values that options such as `--set place.loss=5` and `--seed 7` give. What is wrong is one line of
 //! text ([`NoPlan`]): with its place in the text where the text is wrong by itself, else without one.

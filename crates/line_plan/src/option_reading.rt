@@ -3,19 +3,16 @@ ghost use Rattle.std.specs.Prelude.{◌≡◌, IfOk, IfErr, string_bytes};
 ghost use Rattle.toml.specs.View.{table_view};
 ghost use Rattle.line_plan.specs.Descriptions.{IsPlanOf};
 ghost use Rattle.line_plan.specs.OptionDescriptions.{IsPlanBy, IsPlanWith, IsDescribed, IsBadBy, IsBadWith, IsRefused, IsBadText, IsFaultLine, IsOptionLine};
-ghost use Rattle.line_plan.specs.OptionDescriptions.{cause_line, word_at, no_plan};
+ghost use Rattle.line_plan.specs.OptionDescriptions.{long_line, no_text_line, cause_line, word_at, quoted_at, no_plan};
 
 use crate::Plan;
 use crate::input::{InputFault, read_text};
 use crate::options::{OptionFault, with_options};
-use plan_tables::{Cause, PlanFault};
+use plan_tables::{Cause, PlanFault, TextPlace};
 use plc_base::Source;
 use std::alloc::{AllocError, Global};
+use text_signs::quoted;
 use toml::Table;
-
-const LONG: &str = "bad description: it has more than 16777216 octets\n";
-
-const NO_TEXT: &str = "bad description: it is no UTF-8\n";
 
 /// Why there is no plan.
 #[derive(Drop, Debug)]
@@ -55,6 +52,18 @@ fn wrong_with_options(alloc: Global, cause: &Cause) -> Wrong
     format!(in alloc; "bad description with these options: {cause}\n")
 }
 
+fn long_text(alloc: Global, place: TextPlace) -> Wrong
+    ensures { IfOk result (λ line. string_bytes line ≡ long_line place) }
+{
+    format!(in alloc; "bad description: {place}: it has more than 16777216 octets\n")
+}
+
+fn no_text(alloc: Global, place: TextPlace) -> Wrong
+    ensures { IfOk result (λ line. string_bytes line ≡ no_text_line place) }
+{
+    format!(in alloc; "bad description: {place}: it is no UTF-8\n")
+}
+
 // The word at a place among options.
 fn word_at(options: &[String], place: usize) -> &str
     ensures { result.now ≡ word_at options.now place }
@@ -65,24 +74,28 @@ fn word_at(options: &[String], place: usize) -> &str
     }
 }
 
+// The same, as a message quotes it.
+fn quoted_at(alloc: Global, options: &[String], place: usize) -> Wrong
+    ensures { IfOk result (λ word. string_bytes word ≡ quoted_at options.now place) }
+{
+    quoted(alloc, word_at(options, place).as_bytes())
+}
+
 fn wrong_option(alloc: Global, options: &[String], fault: OptionFault) -> Wrong
     ensures { IfOk result (λ line. IsOptionLine options.now fault (string_bytes line)) }
 {
     match fault {
         OptionFault::Form(place) => {
-            format!(in alloc; "bad option: {} is no KEY=VALUE\n", word_at(options, place))
+            let word = quoted_at(alloc, options, place)?;
+            format!(in alloc; "bad option: `{word}` is no KEY=VALUE\n")
         }
         OptionFault::NoValue(place) => {
-            format!(in alloc;
-                "bad option: no value of TOML in {}\n",
-                word_at(options, place)
-            )
+            let word = quoted_at(alloc, options, place)?;
+            format!(in alloc; "bad option: no value of TOML in `{word}`\n")
         }
         OptionFault::NoTable(place) => {
-            format!(in alloc;
-                "bad option: no table is named before the point in {}\n",
-                word_at(options, place)
-            )
+            let word = quoted_at(alloc, options, place)?;
+            format!(in alloc; "bad option: no table is named before the point in `{word}`\n")
         }
         OptionFault::Memory => Err(AllocError),
     }
@@ -149,8 +162,8 @@ pub fn read_plan<S: Source>(
         Ok(text) => text,
         Err(InputFault::Read) => return Err(NoPlan::Read),
         Err(InputFault::Memory) => return Err(NoPlan::Memory),
-        Err(InputFault::Long) => return Err(no_plan(String::from_str(alloc, LONG))),
-        Err(InputFault::Text) => return Err(no_plan(String::from_str(alloc, NO_TEXT))),
+        Err(InputFault::Long(place)) => return Err(no_plan(long_text(alloc, place))),
+        Err(InputFault::Text(place)) => return Err(no_plan(no_text(alloc, place))),
     };
     match plan_of(alloc, text.as_str(), options) {
         Ok(plan) => Ok(plan),

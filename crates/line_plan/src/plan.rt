@@ -5,8 +5,9 @@ ghost use Rattle.std.specs.Str.{chars};
 ghost use Rattle.toml.specs.View.{view};
 ghost use Rattle.plan_tables.specs.Members.{table_of};
 ghost use Rattle.plan_tables.specs.Places.{meters_of};
+ghost use Rattle.text_signs.specs.Signs.{is_control};
 ghost use Rattle.line_plan.specs.Plans.{air_of, joining_of, readings_of, rotation_of, care_of, owner_at};
-ghost use Rattle.line_plan.specs.Plans.{head_at, is_control, is_line, title_in, title_at, place_of};
+ghost use Rattle.line_plan.specs.Plans.{head_at, is_line, title_in, title_at, place_of};
 ghost use Rattle.line_plan.specs.Plans.{not_tables, incident_in, incidents_from, incidents_in, incidents_at, plan_at};
 
 use plan_tables::{
@@ -15,6 +16,7 @@ use plan_tables::{
 };
 use std::alloc::{AllocError, Global};
 use std::marker::Model;
+use text_signs::is_control;
 use toml::Value;
 
 /// What the owner of the line does.
@@ -163,19 +165,6 @@ fn head_at(top: &Fields<'_>) -> Result<Head, WrongValue>
         air,
         owner,
     })
-}
-
-// Whether a character ends a line, turns a text round, or is another control character.
-fn is_control(sign: char) -> bool
-    ensures { result ≡ is_control sign }
-{
-    let code = sign as u32;
-    code < 32
-        || (127 <= code && code < 160)
-        || code == 1_564
-        || (8_206 <= code && code < 8_208)
-        || (8_232 <= code && code < 8_239)
-        || (8_294 <= code && code < 8_298)
 }
 
 fn has_control(text: &str) -> bool

@@ -7,24 +7,27 @@ ghost use Rattle.line_plan.specs.Descriptions.{IsPlanOf, IsFaultOf, IsReadIn, Is
 ghost use Rattle.line_plan.specs.Unknowns.{unknown_view};
 
 use crate::plan::{Plan, plan_at};
-use crate::unknown::{Unknown, nearest_of, unknown_in};
+use crate::unknown::{Unknown, meant_by, unknown_in};
 use plan_tables::{
     Cause, Fields, PlanFault, Section, TextPlace, UnknownKey, octet_place, place_of,
 };
 use std::alloc::{AllocError, Global};
+use text_signs::quoted;
 use toml::Table;
 
-// A key that its table may not have, with the nearest of those that it may.
+// A key that its table may not have, with the one that may be meant.
 fn unknown_key(alloc: Global, unknown: &Unknown<'_>) -> Result<UnknownKey, AllocError>
     ensures { IfOk result (λ key. IsUnknownAt (unknown_view unknown.now) key) }
 {
-    let nearest = nearest_of(alloc, unknown.known.keys(), unknown.key)?;
+    let meant = meant_by(alloc, unknown.known, unknown.key)?;
     let key = String::from_str(alloc, unknown.key)?;
+    let shown = quoted(alloc, unknown.key.as_bytes())?;
     Ok(UnknownKey {
         section: unknown.section,
         key,
+        shown,
         known: unknown.known,
-        nearest,
+        meant,
     })
 }
 

@@ -3,11 +3,12 @@ ghost use Rattle.std.specs.Prelude.{◌≡◌, IfOk, map, option_map};
 ghost use Rattle.toml.specs.View.{table_view, view};
 ghost use Rattle.line_plan.specs.Unknowns.{is_known, stranger, unknown_view, unknown_at, table_within, unknown_within, place_keys, unknown_of_place};
 ghost use Rattle.line_plan.specs.Unknowns.{incident_keys, unknown_of_incident, unknown_of_incidents, unknown_among, unknown_of_owner, unknown_of_line};
-ghost use Rattle.line_plan.specs.Unknowns.{unknown_in, nearest_of};
+ghost use Rattle.line_plan.specs.Unknowns.{unknown_in, farthest, nearest_in, nearest_among, is_near, meant_by};
 
-use plan_tables::{Fields, Key, KeySet, PlaceKind, Section, WhatKind, kind_at, what_at};
+use plan_tables::{Fields, Key, KeySet, Meant, PlaceKind, Section, WhatKind, kind_at, what_at};
 use std::alloc::{AllocError, Global};
 use strsim::levenshtein;
+use text_signs::MOST_QUOTED;
 use toml::{Table, Value};
 
 /// A key that a table may not have.
@@ -204,18 +205,87 @@ pub(crate) fn unknown_in(top: &Table) -> Option<Unknown<'_>>
     unknown_among(top)
 }
 
-/// The first of some keys with the fewest edits to a key.
-pub(crate) fn nearest_of(alloc: Global, known: &[Key], key: &str) -> Result<Key, AllocError>
-    ensures { IfOk result (λ nearest. nearest ≡ nearest_of known.now key.now) }
+// The known key that is the nearest so far, and how many edits lead to it.
+#[derive(Clone, Copy)]
+struct Nearest {
+    known: KeySet,
+    key: Key,
+    edits: usize,
+}
+
+// Before any key is looked at.
+fn farthest() -> Nearest
+    ensures { result ≡ farthest }
 {
-    let mut nearest = Key::Title;
-    let mut fewest = usize::MAX;
-    for one in known {
-        let edits = levenshtein(alloc, key, one.word())?;
-        if edits < fewest {
-            fewest = edits;
-            nearest = *one;
+    Nearest {
+        known: KeySet::Top,
+        key: Key::Title,
+        edits: usize::MAX,
+    }
+}
+
+// The nearest after the keys of a table too: the first with the fewest edits.
+fn nearest_in(
+    alloc: Global,
+    word: &str,
+    before: Nearest,
+    known: KeySet,
+    keys: &[Key],
+) -> Result<Nearest, AllocError>
+    ensures { IfOk result (λ nearest. nearest ≡ nearest_in word.now known before keys.now) }
+{
+    let mut nearest = before;
+    for key in keys {
+        let edits = levenshtein(alloc, word, key.word())?;
+        if edits < nearest.edits {
+            nearest = Nearest {
+                known,
+                key: *key,
+                edits,
+            };
         }
     }
     Ok(nearest)
+}
+
+// The nearest after the keys of tables too.
+fn nearest_among(
+    alloc: Global,
+    word: &str,
+    before: Nearest,
+    tables: &[KeySet],
+) -> Result<Nearest, AllocError>
+    ensures { IfOk result (λ nearest. nearest ≡ nearest_among word.now before tables.now) }
+{
+    let mut nearest = before;
+    for known in tables {
+        nearest = nearest_in(alloc, word, nearest, *known, known.keys())?;
+    }
+    Ok(nearest)
+}
+
+// A key is near where two edits lead to it, and the half of the word's octets.
+fn is_near(word: &str, nearest: Nearest) -> bool
+    ensures { result ≡ is_near word.now nearest }
+{
+    nearest.edits <= 2 && nearest.edits <= word.len() / 2
+}
+
+/// Which key may be meant by one that a table may not have: the nearest of the table where it is near, else the nearest of all tables where that is near. A
+/// word of more than 64 octets means none.
+pub(crate) fn meant_by(alloc: Global, known: KeySet, word: &str) -> Result<Meant, AllocError>
+    ensures { IfOk result (λ meant. meant ≡ meant_by known word.now) }
+{
+    if word.len() > MOST_QUOTED {
+        return Ok(Meant::Nothing);
+    }
+    let here = nearest_in(alloc, word, farthest(), known, known.keys())?;
+    if is_near(word, here) {
+        return Ok(Meant::Here(here.key));
+    }
+    let there = nearest_among(alloc, word, farthest(), KeySet::all())?;
+    if is_near(word, there) {
+        return Ok(Meant::There(there.known, there.key));
+    }
+    Ok(Meant::Nothing)
 }

@@ -91,3 +91,32 @@ keys_of sets.Rekey = keys.At ∷ keys.What ∷ keys.Index ∷ []
 keys_of sets.Replay = keys.At ∷ keys.What ∷ keys.Node ∷ keys.Nodes ∷ keys.Count ∷ []
 keys_of sets.Delay = keys.At ∷ keys.What ∷ keys.Node ∷ keys.For ∷ keys.Later ∷ []
 keys_of sets.FalseJoins = keys.At ∷ keys.What ∷ keys.Nodes ∷ []
+
+-- shut, so that a search over all keys is not computed where it is only named
+unfoldable pub all_tables : List KeySet
+all_tables =
+    sets.Top ∷ sets.Street ∷ sets.Grid ∷ sets.Tower ∷ sets.Scatter ∷ sets.Matrix ∷ sets.Air ∷ sets.Joining ∷ sets.Readings ∷ sets.Rotation
+    ∷ sets.Care ∷ sets.Power ∷ sets.Torn ∷ sets.Noise ∷ sets.LinkDown ∷ sets.Kick ∷ sets.Rekey ∷ sets.Replay ∷ sets.Delay ∷ sets.FalseJoins ∷ []
+
+-- where the keys of a table stand
+abbrev pub set_word : KeySet → List ℕ
+set_word sets.Top = codes "outside all tables"
+set_word sets.Street = codes "in [place] with kind = \"street\""
+set_word sets.Grid = codes "in [place] with kind = \"grid\""
+set_word sets.Tower = codes "in [place] with kind = \"tower\""
+set_word sets.Scatter = codes "in [place] with kind = \"scatter\""
+set_word sets.Matrix = codes "in [place] with kind = \"matrix\""
+set_word sets.Air = codes "in [air]"
+set_word sets.Joining = codes "in [joining]"
+set_word sets.Readings = codes "in [readings]"
+set_word sets.Rotation = codes "in [rotation]"
+set_word sets.Care = codes "in [care]"
+set_word sets.Power = codes "in [[at]] with what = \"power\""
+set_word sets.Torn = codes "in [[at]] with what = \"torn\""
+set_word sets.Noise = codes "in [[at]] with what = \"noise\""
+set_word sets.LinkDown = codes "in [[at]] with what = \"link\""
+set_word sets.Kick = codes "in [[at]] with what = \"kick\""
+set_word sets.Rekey = codes "in [[at]] with what = \"rekey\""
+set_word sets.Replay = codes "in [[at]] with what = \"replay\""
+set_word sets.Delay = codes "in [[at]] with what = \"delay\""
+set_word sets.FalseJoins = codes "in [[at]] with what = \"false_joins\""

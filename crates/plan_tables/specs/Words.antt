@@ -5,13 +5,15 @@ use Rattle.plan_tables.specs.declared.keys.Key.TheVariants as keys
 use Rattle.plan_tables.specs.declared.fault.Wanted.{Wanted}
 use Rattle.plan_tables.specs.declared.fault.Wanted.TheVariants as wanted
 use Rattle.plan_tables.specs.declared.fault.WrongValue.{WrongValue}
+use Rattle.plan_tables.specs.declared.fault.Meant.{Meant}
+use Rattle.plan_tables.specs.declared.fault.Meant.TheVariants.{Here, There, Nothing}
 use Rattle.plan_tables.specs.declared.fault.UnknownKey.{UnknownKey}
 use Rattle.plan_tables.specs.declared.fault.Cause.{Cause}
 use Rattle.plan_tables.specs.declared.fault.Cause.TheVariants.{Syntax, Unknown, Wrong}
 use Rattle.plan_tables.specs.declared.fault.TextPlace.{TextPlace}
 use Rattle.plan_tables.specs.declared.fault.PlanFault.{PlanFault}
 use Rattle.plan_tables.specs.declared.fault.PlanFault.TheVariants.{At, Memory}
-use Rattle.plan_tables.specs.Keys.{key_word}
+use Rattle.plan_tables.specs.Keys.{key_word, set_word}
 
 -- the words that a key may have
 abbrev pub words_of : Key → List ℕ
@@ -47,10 +49,17 @@ wanted_text key wanted.Linked = codes "a list of two nodes of which one hears th
 abbrev pub wrong_text : WrongValue → List ℕ
 wrong_text wrong = codes "the value of " ++ key_word wrong.key ++ codes " has to be " ++ wanted_text wrong.key wrong.wanted
 
-abbrev pub unknown_text : UnknownKey → List ℕ
-unknown_text unknown = codes "no key is called " ++ string_bytes unknown.key ++ codes "; the nearest is " ++ key_word unknown.nearest
+-- which key may be meant
+abbrev pub meant_text : Meant → List ℕ
+meant_text (Here key) = codes "; did you mean `" ++ key_word key ++ codes "`?"
+meant_text (There set key) = codes "; did you mean `" ++ key_word key ++ codes "` " ++ set_word set ++ codes "?"
+meant_text Nothing = codes ""
 
--- what is wrong: a key with the nearest known one, or a value with what would fit; that a text is no TOML is said in a reader's words
+abbrev pub unknown_text : UnknownKey → List ℕ
+unknown_text unknown =
+    codes "no key " ++ set_word unknown.known ++ codes " is called `" ++ string_bytes unknown.shown ++ codes "`" ++ meant_text unknown.meant
+
+-- what is wrong: a key with one that may be meant, or a value with what would fit; that a text is no TOML is said in a reader's words
 abbrev pub cause_text : Cause → List ℕ
 cause_text (Syntax message) = string_bytes message
 cause_text (Unknown unknown) = unknown_text unknown

@@ -1,7 +1,7 @@
 //! Why a description is refused.
 ghost use Rattle.std.specs.Prelude.{◌≡◌, Some};
 ghost use Rattle.plan_tables.specs.Faults.{section_word};
-ghost use Rattle.plan_tables.specs.Words.{words_of, wanted_text, wrong_text, unknown_text, place_text, cause_text, fault_text};
+ghost use Rattle.plan_tables.specs.Words.{words_of, wanted_text, wrong_text, meant_text, unknown_text, place_text, cause_text, fault_text};
 
 use crate::keys::{Key, KeySet};
 use std::alloc::AllocError;
@@ -96,6 +96,17 @@ pub struct WrongValue {
     pub wanted: Wanted,
 }
 
+/// Which key may be meant by one that its table may not have.
+#[derive(Clone, Copy, Debug, PartialEq, Eq)]
+pub enum Meant {
+    /// One of the same table, a few edits away.
+    Here(Key),
+    /// One of another table, a few edits away or none.
+    There(KeySet, Key),
+    /// None is near.
+    Nothing,
+}
+
 /// A key that a table may not have.
 #[derive(Drop, Debug)]
 pub struct UnknownKey {
@@ -103,10 +114,12 @@ pub struct UnknownKey {
     pub section: Section,
     /// The key.
     pub key: String,
+    /// The key as a message quotes it.
+    pub shown: String,
     /// Which keys the table may have.
     pub known: KeySet,
-    /// The first of these with the fewest edits to the key.
-    pub nearest: Key,
+    /// Which key may be meant.
+    pub meant: Meant,
 }
 
 /// What is wrong.
@@ -206,14 +219,26 @@ impl fmt::Display for WrongValue {
     }
 }
 
+impl fmt::Display for Meant {
+    ghost output = { λ meant. Some (meant_text meant) };
+
+    fn fmt<W: fmt::Write>(&self, f: &mut fmt::Formatter<W>) -> fmt::Result {
+        match self {
+            Meant::Here(key) => write!(f, "; did you mean `{key}`?"),
+            Meant::There(set, key) => write!(f, "; did you mean `{key}` {set}?"),
+            Meant::Nothing => f.write_str(""),
+        }
+    }
+}
+
 impl fmt::Display for UnknownKey {
     ghost output = { λ unknown. Some (unknown_text unknown) };
 
     fn fmt<W: fmt::Write>(&self, f: &mut fmt::Formatter<W>) -> fmt::Result {
         write!(
             f,
-            "no key is called {}; the nearest is {}",
-            self.key, self.nearest
+            "no key {} is called `{}`{}",
+            self.known, self.shown, self.meant
         )
     }
 }

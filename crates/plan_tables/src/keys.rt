@@ -1,6 +1,6 @@
 //! The keys of a description, and which keys a table may have.
 ghost use Rattle.std.specs.Prelude.{◌≡◌};
-ghost use Rattle.plan_tables.specs.Keys.{key_word, keys_of};
+ghost use Rattle.plan_tables.specs.Keys.{key_word, keys_of, all_tables, set_word};
 
 use std::fmt;
 
@@ -325,7 +325,66 @@ const DELAY: [Key; 5] = [Key::At, Key::What, Key::Node, Key::For, Key::Later];
 
 const FALSE_JOINS: [Key; 3] = [Key::At, Key::What, Key::Nodes];
 
+const TABLES: [KeySet; 20] = [
+    KeySet::Top,
+    KeySet::Street,
+    KeySet::Grid,
+    KeySet::Tower,
+    KeySet::Scatter,
+    KeySet::Matrix,
+    KeySet::Air,
+    KeySet::Joining,
+    KeySet::Readings,
+    KeySet::Rotation,
+    KeySet::Care,
+    KeySet::Power,
+    KeySet::Torn,
+    KeySet::Noise,
+    KeySet::LinkDown,
+    KeySet::Kick,
+    KeySet::Rekey,
+    KeySet::Replay,
+    KeySet::Delay,
+    KeySet::FalseJoins,
+];
+
 impl KeySet {
+    /// All tables.
+    #[tactic(auto, unfolding(crate::specs::Keys::all_tables))]
+    pub fn all() -> &'static [KeySet]
+        ensures { result.now ≡ all_tables }
+    {
+        &TABLES
+    }
+
+    /// Where the keys of the table stand.
+    pub fn word(self) -> &'static str
+        ensures { result.now ≡ set_word self }
+    {
+        match self {
+            KeySet::Top => "outside all tables",
+            KeySet::Street => "in [place] with kind = \"street\"",
+            KeySet::Grid => "in [place] with kind = \"grid\"",
+            KeySet::Tower => "in [place] with kind = \"tower\"",
+            KeySet::Scatter => "in [place] with kind = \"scatter\"",
+            KeySet::Matrix => "in [place] with kind = \"matrix\"",
+            KeySet::Air => "in [air]",
+            KeySet::Joining => "in [joining]",
+            KeySet::Readings => "in [readings]",
+            KeySet::Rotation => "in [rotation]",
+            KeySet::Care => "in [care]",
+            KeySet::Power => "in [[at]] with what = \"power\"",
+            KeySet::Torn => "in [[at]] with what = \"torn\"",
+            KeySet::Noise => "in [[at]] with what = \"noise\"",
+            KeySet::LinkDown => "in [[at]] with what = \"link\"",
+            KeySet::Kick => "in [[at]] with what = \"kick\"",
+            KeySet::Rekey => "in [[at]] with what = \"rekey\"",
+            KeySet::Replay => "in [[at]] with what = \"replay\"",
+            KeySet::Delay => "in [[at]] with what = \"delay\"",
+            KeySet::FalseJoins => "in [[at]] with what = \"false_joins\"",
+        }
+    }
+
     /// The keys that the table may have.
     pub fn keys(self) -> &'static [Key]
         ensures { result.now ≡ keys_of self }
@@ -352,5 +411,15 @@ impl KeySet {
             KeySet::Delay => &DELAY,
             KeySet::FalseJoins => &FALSE_JOINS,
         }
+    }
+}
+
+impl fmt::Display for KeySet {
+    ghost use Rattle.std.specs.Prelude.{Some};
+
+    ghost output = { λ set. Some (set_word set) };
+
+    fn fmt<W: fmt::Write>(&self, f: &mut fmt::Formatter<W>) -> fmt::Result {
+        f.write_str(self.word())
     }
 }

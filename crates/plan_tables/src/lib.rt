@@ -26,7 +26,7 @@ mod text_places;
 mod values;
 
 pub use air_plan::{AirPlan, Choices, Limits, PlannedRate, Waits};
-pub use fault::{Cause, PlanFault, Section, TextPlace, UnknownKey, Wanted, WrongValue};
+pub use fault::{Cause, Meant, PlanFault, Section, TextPlace, UnknownKey, Wanted, WrongValue};
 pub use fields::Fields;
 pub use incidents::{Incident, Leaves, NodeList, What, WhatKind, what_at};
 pub use keys::{Key, KeySet};

@@ -2,7 +2,7 @@ use Rattle.std.proofs.Common.{sym, ap, ◌∙◌, map-id}
 use Rattle.std.specs.List.{list_any}
 use Rattle.std.proofs.lemmas.Iterator.{YieldsList-from_chars}
 use Rattle.std.proofs.lemmas.Iterator.Consumers.{YieldsList-end}
-use Rattle.line_plan.specs.Plans.{is_control}
+use Rattle.text_signs.specs.Signs.{is_control}
 use Rattle.line_plan.proofs.plan.has_control.Goals as goal
 
 pub returns : goal.returns

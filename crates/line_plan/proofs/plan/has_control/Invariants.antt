@@ -1,6 +1,6 @@
 use Rattle.std.proofs.Common.{◌≡◌}
 use Rattle.std.specs.List.{list_any}
-use Rattle.line_plan.specs.Plans.{is_control}
+use Rattle.text_signs.specs.Signs.{is_control}
 use Rattle.line_plan.proofs.plan.has_control.Given as goal
 
 -- whether there was one so far

@@ -52,11 +52,11 @@ fn has_the_place_of_a_fault() {
     for (text, said) in [
         (
             "title = \"a\"\nsede = 3\n",
-            "line 2, column 1: no key is called sede; the nearest is seed",
+            "line 2, column 1: no key outside all tables is called `sede`; did you mean `seed`?",
         ),
         (
             "[place]\n  metres = 9\n",
-            "line 2, column 3: no key is called metres; the nearest is meters",
+            "line 2, column 3: no key in [place] with kind = \"street\" is called `metres`; did you mean `meters`?",
         ),
         (
             "[air]\nrate = \"fast\"\n",
@@ -64,7 +64,7 @@ fn has_the_place_of_a_fault() {
         ),
         (
             "[[at]]\nat = 1\nwhat = \"kick\"\n[[at]]\nat = 2\nwhat = \"kick\"\nfro = 3\n",
-            "line 7, column 1: no key is called fro; the nearest is at",
+            "line 7, column 1: no key in [[at]] with what = \"kick\" is called `fro`; did you mean `from` in [joining]?",
         ),
         (
             "[place]\nmeters = 999\n",
@@ -76,15 +76,15 @@ fn has_the_place_of_a_fault() {
         ),
         (
             "[place]\nkind = \"matrix\"\nlinks = [\n[0, 1, 5],\n[1, 0, 5],\n]\ncosts = 2\n",
-            "line 7, column 1: no key is called costs; the nearest is cost",
+            "line 7, column 1: no key in [place] with kind = \"matrix\" is called `costs`; did you mean `cost`?",
         ),
         (
             "title = \"a\"\n[place]\nmeters = 2\n  [reading]\nevery = 3\n",
-            "line 4, column 3: no key is called reading; the nearest is readings",
+            "line 4, column 3: no key outside all tables is called `reading`; did you mean `readings`?",
         ),
         (
             "title = \"a\"\nreading.every = 3\n[place]\nmeters = 2\n",
-            "line 2, column 1: no key is called reading; the nearest is readings",
+            "line 2, column 1: no key outside all tables is called `reading`; did you mean `readings`?",
         ),
         (
             "[place]\nmeters = 2\n[at]\nat = 3\n",
