@@ -1,5 +1,5 @@
 -- A check shows each change within one octet: the residue is another one from there on, since 256 and 2^32 have inverses modulo a prime.
-use Rattle.std.proofs.Common.{◌≡◌, ℕ, ◌+◌, ◌*◌, ◌%◌, ◌<◌, List, [], ◌∷◌, ◌++◌, arith}
+use Rattle.std.proofs.Common.{◌≡◌, ℕ, ◌*◌, ◌%◌, ◌<◌, List, [], ◌∷◌, ◌++◌, arith}
 use Rattle.std.specs.List.{fold}
 use Rattle.flash_keeper.specs.declared.check.TheConstants.{MODULUS}
 use Rattle.flash_keeper.specs.Check.{next_residue, check_of, ChangedOctetIsSeen, ChangedSlotIsSeen}

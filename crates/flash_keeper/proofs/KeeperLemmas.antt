@@ -1,34 +1,48 @@
 -- A keeper over two banks.
-use Rattle.std.proofs.Common.{◌≡◌, inl, inr, ℕ, zero, suc, ◌<◌, ◌≤◌, ◌==◌, ◌&&◌, not, Bool, true, false, Option, Some, None, refl, sym, subst, ap, ◌∙◌, arith}
+use Rattle.std.proofs.Common.{◌≡◌, inl, inr, ℕ, zero, suc, ◌<◌, ◌≤◌, ◌==◌, ◌&&◌, ◌||◌, ◌⊎◌, not, Bool, true, false}
+use Rattle.std.proofs.Common.{Option, Some, None, refl, sym, subst, ap, ◌∙◌, arith}
 use Rattle.std.proofs.lemmas.Bool.Decides.{nat_tests}
-use Rattle.std.specs.Bool.{OnFalse}
 use Rattle.std.specs.FinMap.{len}
 use Rattle.flash_keeper.specs.Flash.{Word, Bank, IsBlank, erased}
 use Rattle.flash_keeper.specs.Log.{AreCertain, Choice, IsLeft, room, fence, begun, are_erased, is_erased, upto, upto_fence}
-use Rattle.flash_keeper.specs.Banks.{AreHeld, AreReady, ArePurged, IsKept, are_purged, choice_of}
+use Rattle.flash_keeper.specs.Banks.{AreHeld, AreReady, ArePurged, IsKept, are_full, are_purged, choice_of}
 use Rattle.flash_keeper.proofs.CellLemmas.{upto_unfenced}
 use Rattle.flash_keeper.proofs.LogLemmas.{less_or_same}
 use Rattle.flash_keeper.proofs.BankLemmas.{ready_is_held, n_within}
 
-on_false : {P : Type 0} (b : Bool) → P → OnFalse b P
-on_false true p = tt
-on_false false p = p
-
 -- banks of which nothing is open
-pub kept_of_ready : (live spare : Bank) (n : ℕ) (copied : Option ℕ) (failed : Bool) → AreReady live spare n → copied ≡ None
-    → IsKept live spare n copied failed
-kept_of_ready live spare n copied failed r none = record { held = ready_is_held live spare n copied r none; ready = on_false failed (r, none) }
+pub kept_of_ready : (live spare : Bank) (n : ℕ) (copied : Option ℕ) (has_failed : Bool) → AreReady live spare n → copied ≡ None
+    → IsKept live spare n copied false has_failed
+kept_of_ready live spare n copied has_failed r none = record { held = ready_is_held live spare n copied r none; ready = (r, none); cause = λ e. cc }
 
--- banks of which something may be open
-pub kept_of_held : (live spare : Bank) (n : ℕ) (copied : Option ℕ) → AreHeld live spare n copied → IsKept live spare n copied true
-kept_of_held live spare n copied held = record { held = held; ready = tt }
+either : (one other : Bool) → (one ≡ true) ⊎ (other ≡ true) → (one || other) ≡ true
+either true other e = refl
+either false other (inl e) = cc
+either false other (inr e) = e
+
+-- a program or an erase of one of two banks failed, or there was no room
+pub one_cause : (one other full : Bool) → (one ≡ true) ⊎ (other ≡ true) ⊎ (full ≡ true) → ((one || other) ≡ true) ⊎ (full ≡ true)
+one_cause one other full (inl e) = inl (either one other (inl e))
+one_cause one other full (inr (inl e)) = inl (either one other (inr e))
+one_cause one other full (inr (inr e)) = inr e
+
+-- banks of which something may be open, where the flash failed
+pub kept_of_failed : (live spare : Bank) (n : ℕ) (copied : Option ℕ) (one other : Bool) → AreHeld live spare n copied → (one ≡ true) ⊎ (other ≡ true)
+    → IsKept live spare n copied true (one || other)
+kept_of_failed live spare n copied one other held e = record { held = held; ready = tt; cause = λ _. inl (either one other e) }
+
+-- and where it failed, or there was no room
+pub kept_of_full : (live spare : Bank) (n : ℕ) (copied : Option ℕ) (one other : Bool) → AreHeld live spare n copied
+    → (one ≡ true) ⊎ (other ≡ true) ⊎ (are_full live n ≡ true) → IsKept live spare n copied true (one || other)
+kept_of_full live spare n copied one other held e = record { held = held; ready = tt; cause = λ _. one_cause one other (are_full live n) e }
 
 -- nothing else may be found where nothing is open
 pub nothing_else : (live spare : Bank) (n : ℕ) → AreReady live spare n → upto_fence live.words n ≡ upto live.words n
 nothing_else live spare n r = upto_unfenced live.words n (r.log.blank (fence n) (omega arith))
 
-pub kept_within : (live spare : Bank) (n : ℕ) (copied : Option ℕ) (failed : Bool) → IsKept live spare n copied failed → n ≤ room live.size
-kept_within live spare n copied failed k = n_within live n (choice_of live n) k.held.left.log
+pub kept_within : (live spare : Bank) (n : ℕ) (copied : Option ℕ) (failed has_failed : Bool) → IsKept live spare n copied failed has_failed
+    → n ≤ room live.size
+kept_within live spare n copied failed has_failed k = n_within live n (choice_of live n) k.held.left.log
 
 number_is : (m n : ℕ) → m ≡ n → (m == n) ≡ true
 number_is m n e = grind (arith, nat_tests)

@@ -1,5 +1,5 @@
 -- Two banks: the live one and the spare one, and what an opening may find in them.
-use Rattle.std.specs.Prelude.{◌≡◌, ◌<◌, ◌⊎◌, ◌==◌, ◌&&◌, ℕ, Bool, true, false, List, Option, Some, None, refl}
+use Rattle.std.specs.Prelude.{◌≡◌, ◌<◌, ◌⊎◌, ◌==◌, ◌&&◌, leb, ℕ, Bool, true, false, List, Option, Some, None, refl}
 use Rattle.std.specs.Bool.{OnFalse}
 use Rattle.std.specs.Coded.{Coded, code_by, coded×, coded_ℕ, coded_bool, coded_list}
 use Rattle.std.specs.FinMap.{code, insert, len}
@@ -96,16 +96,29 @@ pub record ArePurged (live spare : Bank) (records : Records) : Type 0 where
   pub firm : spare.torn ≡ false
   pub blank : (i : ℕ) → i < spare.size → spare.words i ≡ Some erased
 
+-- whether a bank has no cell more than there are records in the first n of the live one
+abbrev pub are_full : Bank → ℕ → Bool
+are_full live n = leb (room live.size) (len (upto live.words n))
+
 -- What a keeper over flash holds, what an opening of its banks may find in place of its records, and whether nothing but its records is in them.
+-- Then why a put may fail: a program or an erase of one of its banks has failed, or a bank has no room for one record more.
 pub record FlashStore : Type 0 where
   pub store : Store
   pub left : Records
   pub purged : Bool
+  pub has_failed : Bool
+  pub full : Bool
 
 abbrev pub flash_store_code : Coded FlashStore
 flash_store_code =
-    code_by (Store × (Records × Bool)) (coded× store_code (coded× (code coded_ℕ (coded_list coded_ℕ)) coded_bool)) (λ s. (s.store, (s.left, s.purged)))
-    (λ p. record { store = p.0; left = p.1.0; purged = p.1.1 }) (λ _. refl)
+    code_by (Store × (Records × (Bool × (Bool × Bool))))
+    (coded× store_code (coded× (code coded_ℕ (coded_list coded_ℕ)) (coded× coded_bool (coded× coded_bool coded_bool))))
+    (λ s. (s.store, (s.left, (s.purged, (s.has_failed, s.full)))))
+    (λ p. record { store = p.0; left = p.1.0; purged = p.1.1.0; has_failed = p.1.1.1.0; full = p.1.1.1.1 }) (λ _. refl)
+
+-- A cause for which a put or a purge fails: a program or an erase failed, or there is no room.
+abbrev pub HasCause : FlashStore → Type 0
+HasCause keeper = (keeper.has_failed ≡ true) ⊎ (keeper.full ≡ true)
 
 -- what a keeper holds that was opened: one of these records, and no other opening will find others
 pub record IsOpened (choice : Choice) (keeper : FlashStore) : Type 0 where
@@ -138,10 +151,11 @@ pub record AreHeld (live spare : Bank) (n : ℕ) (copied : Option ℕ) : Type 0 
   pub left : AreLeft live spare n (choice_of live n)
   pub copy_cells : (cells : ℕ) → copied ≡ Some cells → IsCopy live spare n cells
 
--- what holds of a keeper: its banks are held so, and nothing is open where it has not failed
-pub record IsKept (live spare : Bank) (n : ℕ) (copied : Option ℕ) (failed : Bool) : Type 0 where
+-- What holds of a keeper: its banks are held so; nothing is open where it has not failed, and where it has, its flash did, or there was no room.
+pub record IsKept (live spare : Bank) (n : ℕ) (copied : Option ℕ) (failed has_failed : Bool) : Type 0 where
   pub held : AreHeld live spare n copied
   pub ready : OnFalse failed (AreReady live spare n × (copied ≡ None))
+  pub cause : failed ≡ true → (has_failed ≡ true) ⊎ (are_full live n ≡ true)
 
 -- the records that a log stands for are among these, also with the cell after it
 abbrev pub AreAmong : Choice → Bank → ℕ → Type 0

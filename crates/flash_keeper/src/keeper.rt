@@ -5,6 +5,7 @@ ghost use Rattle.std.specs.FinMap as map;
 ghost use Rattle.plc_base.specs.Keeper.{IsSlot, Puts};
 ghost use Rattle.flash_keeper.specs.Log.{Choice, IsLeft, room};
 ghost use Rattle.flash_keeper.specs.Banks.{AreLeft, ArePurged, IsStore, IsCause, IsOpened, IsLeftBy, IsLeftOpen, IsDecayed, MayOpen, FlashStore};
+ghost use Rattle.flash_keeper.specs.Banks.{HasCause};
 ghost use Rattle.flash_keeper.specs.Flash.{IsBlank};
 
 use crate::bank::FlashBank;
@@ -36,7 +37,8 @@ pub enum OpenFault {
 
 /// A keeper over two banks of NOR flash.
 ///
-/// A contract sees what it holds, what an opening of its banks may find in place of that, and whether nothing but its records is left in them. After
+/// A contract sees what it holds, what an opening of its banks may find in place of that, whether nothing but its records is left in them, and the two
+/// causes for which a put may fail: a program or an erase of one of its banks has failed, or a bank has no cell more than there are records. After
 /// `Failed` it holds the records from before, and each further put fails, until it is reopened.
 #[derive(Drop)]
 pub struct FlashKeeper<B: FlashBank + Drop> {
@@ -46,9 +48,9 @@ pub struct FlashKeeper<B: FlashBank + Drop> {
 }
 
 impl<B: FlashBank + Drop> Model for FlashKeeper<B> {
-    ghost use Rattle.std.specs.Prelude.{None};
+    ghost use Rattle.std.specs.Prelude.{None, ◌||◌};
     ghost use Rattle.flash_keeper.specs.Log.{upto, upto_fence};
-    ghost use Rattle.flash_keeper.specs.Banks.{FlashStore, flash_store_code, IsKept, are_purged};
+    ghost use Rattle.flash_keeper.specs.Banks.{FlashStore, flash_store_code, IsKept, are_full, are_purged};
 
     ghost Value = { FlashStore };
 
@@ -58,9 +60,12 @@ impl<B: FlashBank + Drop> Model for FlashKeeper<B> {
       store = record { records = upto (B.bank k.pair.live).words k.pair.next; faults = k.faults; known_cut = None; listed = None };
       left = upto_fence (B.bank k.pair.live).words k.pair.next;
       purged = are_purged (B.bank k.pair.live) (B.bank k.pair.spare) k.pair.next;
+      has_failed = B.has_failed k.pair.live || B.has_failed k.pair.spare;
+      full = are_full (B.bank k.pair.live) k.pair.next;
     } };
 
-    ghost invariant = { λ k. IsKept (B.bank k.pair.live) (B.bank k.pair.spare) k.pair.next k.pair.copied k.failed };
+    ghost invariant = { λ k. IsKept (B.bank k.pair.live) (B.bank k.pair.spare) k.pair.next k.pair.copied k.failed
+        (B.has_failed k.pair.live || B.has_failed k.pair.spare) };
 }
 
 impl<B: FlashBank + Drop> FlashKeeper<B> {
@@ -70,7 +75,7 @@ impl<B: FlashBank + Drop> FlashKeeper<B> {
     /// It gives the banks back with its fault: [`OpenFault::Sizes`] where they have different sizes, or [`OpenFault::Small`] where a bank has fewer
     /// than two cells for each slot, and then nothing was done; or [`OpenFault::Flash`] where a program or an erase failed, and then they are to
     /// be formatted again. A bank with hardly more cells than records would be erased at each put, and worn out in months.
-    #[tactic(auto, using(crate::proofs::KeeperLemmas::kept_of_ready, crate::proofs::KeeperLemmas::kept_of_held, crate::proofs::KeeperLemmas::nothing_else))]
+    #[tactic(auto, using(crate::proofs::KeeperLemmas::kept_of_ready, crate::proofs::KeeperLemmas::kept_of_failed, crate::proofs::KeeperLemmas::nothing_else))]
     pub fn format(first: B, second: B, slots: usize) -> Result<FlashKeeper<B>, (OpenFault, B, B)>
         ensures ok { IfOk result (λ keeper. keeper.store ≡ record { records = map.empty; faults = 0; known_cut = None; listed = None }) }
         ensures left { IfOk result (λ keeper. keeper.left ≡ map.empty) }
@@ -104,7 +109,7 @@ impl<B: FlashBank + Drop> FlashKeeper<B> {
     }
 
     // Settles two banks, of which the first one read as live, unless a cell of it has decayed.
-    #[tactic(auto, using(crate::proofs::KeeperLemmas::kept_of_ready, crate::proofs::KeeperLemmas::kept_of_held, crate::proofs::KeeperLemmas::nothing_else))]
+    #[tactic(auto, using(crate::proofs::KeeperLemmas::kept_of_ready, crate::proofs::KeeperLemmas::kept_of_failed, crate::proofs::KeeperLemmas::nothing_else))]
     fn settled(live: B, spare: B, generation: u64) -> Result<FlashKeeper<B>, (OpenFault, B, B)>
         requires left { ((c : Choice) × (n : ℕ) × AreLeft (B.bank live) (B.bank spare) n c) ⊎ IsDecayed (B.bank live) (B.bank spare) }
         requires sizes { (B.bank live).size ≡ (B.bank spare).size }
@@ -184,19 +189,19 @@ impl<B: FlashBank + Drop> FlashKeeper<B> {
     /// Opens the store again in the same banks, after a failed put or purge, and settles what that left: then it holds what it held, or what an opening
     /// might have found in place of that (`among`), and puts go on. It reads no head: what it knows of its banks is not lost.
     ///
-    /// - [`OpenFault::Flash`] where a program or an erase failed: call it again;
-    /// - [`OpenFault::Decayed`] where a cell of the bank in use has decayed, as `open` does; nothing was programmed. No clause speaks of that, since no bit
-    ///   of a keeper's banks changes by itself in the model.
+    /// - [`OpenFault::Flash`] only where a program or an erase failed (`fault`): call it again;
+    /// - [`OpenFault::Decayed`] where a cell of the bank in use has decayed, as `open` does; nothing was programmed. In the model no bit of a keeper's banks
+    ///   changes by itself, so there it does not come (`fault`).
     ///
     /// With a fault it holds one of the two still, an opening finds one of the two (`among`), and each further put fails.
-    #[tactic(auto, using(crate::proofs::KeeperLemmas::kept_of_ready, crate::proofs::KeeperLemmas::kept_of_held, crate::proofs::KeeperLemmas::nothing_else))]
+    #[tactic(auto, using(crate::proofs::KeeperLemmas::kept_of_ready, crate::proofs::KeeperLemmas::kept_of_failed, crate::proofs::KeeperLemmas::nothing_else))]
     pub fn reopen(&mut self) -> Result<(), OpenFault>
         ensures among { IsLeftOpen self.old self.new }
         ensures opened { OnOk result (self.new.left ≡ self.new.store.records) }
         ensures faults { self.new.store.faults ≡ self.old.store.faults }
         ensures known_cut { self.new.store.known_cut ≡ self.old.store.known_cut }
         ensures listed { self.new.store.listed ≡ self.old.store.listed }
-        ensures fault { IfErr result (λ e. e ≡ OpenFault.Flash) }
+        ensures fault { IfErr result (λ e. (e ≡ OpenFault.Flash) × (self.new.has_failed ≡ true)) }
     {
         self.failed = true;
         if has_decayed(&self.pair.live) {
@@ -229,8 +234,9 @@ impl<B: FlashBank + Drop> FlashKeeper<B> {
     /// Copies the records to the other bank, and erases the one that was used: then nothing but these records, and so no key that was given up, is
     /// left in flash (`purged`). It costs two erases: call it after a device has left or was given other keys, and not at each put.
     ///
-    /// After `Failed` it holds the records from before, as an opening of its banks does (`left`); each further put and purge fails.
-    #[tactic(auto, using(crate::proofs::KeeperLemmas::kept_of_ready, crate::proofs::KeeperLemmas::kept_of_held, crate::proofs::KeeperLemmas::nothing_else))]
+    /// It fails only where a program or an erase failed, or where an earlier put found no room (`failed`). After `Failed` it holds the records from before,
+    /// as an opening of its banks does (`left`); each further put and purge fails.
+    #[tactic(auto, using(crate::proofs::KeeperLemmas::kept_of_ready, crate::proofs::KeeperLemmas::kept_of_failed, crate::proofs::KeeperLemmas::nothing_else))]
     pub fn purge(&mut self) -> Result<(), Failed>
         ensures purged { OnOk result (self.new.purged ≡ true) }
         ensures same { self.new.store.records ≡ self.old.store.records }
@@ -238,6 +244,7 @@ impl<B: FlashBank + Drop> FlashKeeper<B> {
         ensures known_cut { self.new.store.known_cut ≡ self.old.store.known_cut }
         ensures listed { self.new.store.listed ≡ self.old.store.listed }
         ensures left { (self.new.left ≡ self.old.left) ⊎ (self.new.left ≡ self.old.store.records) }
+        ensures failed { OnErr result (HasCause self.new) }
     {
         if self.failed {
             return Err(Failed);
@@ -268,7 +275,7 @@ impl<B: FlashBank + Drop> FlashKeeper<B> {
     }
 
     // Writes a record to flash.
-    #[tactic(auto, using(crate::proofs::KeeperLemmas::kept_of_ready, crate::proofs::KeeperLemmas::kept_of_held, crate::proofs::KeeperLemmas::nothing_else))]
+    #[tactic(auto, using(crate::proofs::KeeperLemmas::kept_of_ready, crate::proofs::KeeperLemmas::kept_of_full, crate::proofs::KeeperLemmas::nothing_else))]
     fn write(&mut self, slot: u32, octets: &Record) -> Result<(), Failed>
         requires more { 0 < slot }
         requires fits { slot < 2 ^ 16 }
@@ -278,6 +285,7 @@ impl<B: FlashBank + Drop> FlashKeeper<B> {
         ensures known_cut { self.new.store.known_cut ≡ self.old.store.known_cut }
         ensures listed { self.new.store.listed ≡ self.old.store.listed }
         ensures left { IsLeftBy self.old slot octets.now (is_ok result) self.new }
+        ensures failed { OnErr result (HasCause self.new) }
     {
         if self.failed {
             return Err(Failed);
@@ -297,7 +305,7 @@ impl<B: FlashBank + Drop> Keeper for FlashKeeper<B> {
         find(&self.pair.live, self.pair.next, slot)
     }
 
-    /// Writes the record at a slot. It fails where a program or an erase failed, and where both banks are full of records of other slots.
+    /// Writes the record at a slot. It fails only where a program or an erase failed, and where both banks are full of records of other slots (`failed`).
     ///
     /// After `Failed` it holds the records from before, an opening of its banks finds those or the ones with this record (`left`), and each
     /// further put fails.
@@ -306,6 +314,7 @@ impl<B: FlashBank + Drop> Keeper for FlashKeeper<B> {
         ensures puts { Puts self.old.store slot octets.now (is_ok result) self.new.store }
         ensures old { OnErr result (self.new.store.records ≡ self.old.store.records) }
         ensures left { IsLeftBy self.old slot octets.now (is_ok result) self.new }
+        ensures failed { OnErr result (HasCause self.new) }
     {
         let Ok(()) = self.write(slot, octets) else {
             self.faults = self.faults.saturating_add(1);

@@ -5,6 +5,7 @@ ghost use Rattle.std.specs.FinMap.{insert, len};
 ghost use Rattle.flash_keeper.specs.Flash.{erased, IsBlank, Programs};
 ghost use Rattle.flash_keeper.specs.Log.{room, upto, upto_fence, Choice, IsOneOf, IsSettled, IsLeft, IsClosable, AreCertain, SameBelow, AreDecided};
 ghost use Rattle.flash_keeper.specs.Banks.{choice_of, AreLeft, AreReady, AreHeld, AreAmong, IsStore, IsLive, IsHeaded, IsDead, IsSeen, IsNumbered};
+ghost use Rattle.flash_keeper.specs.Banks.{are_full};
 
 use crate::bank::{FlashBank, HEAD, is_programmed};
 use crate::cells::{cell_count, close_cell, copy_cells, first_blank, settle_before, write_cell};
@@ -191,6 +192,7 @@ impl<B: FlashBank + Drop> Pair<B> {
         ensures records { upto (B.bank self.new.live).words self.new.next ≡ upto (B.bank self.old.live).words self.old.next }
         ensures held { OnErr result (AreHeld (B.bank self.new.live) (B.bank self.new.spare) self.new.next self.new.copied) }
         ensures found { OnErr result (upto_fence (B.bank self.new.live).words self.new.next ≡ upto (B.bank self.old.live).words self.old.next) }
+        ensures failed { OnErr result ((B.has_failed self.new.live ≡ true) ⊎ (B.has_failed self.new.spare ≡ true)) }
     {
         self.rewrite(self.next)?;
         wipe(&mut self.spare)
@@ -206,6 +208,8 @@ impl<B: FlashBank + Drop> Pair<B> {
         ensures records { upto (B.bank self.new.live).words self.new.next ≡ upto (B.bank self.old.live).words self.old.next }
         ensures held { OnErr result (AreHeld (B.bank self.new.live) (B.bank self.new.spare) self.new.next self.new.copied) }
         ensures found { OnErr result (upto_fence (B.bank self.new.live).words self.new.next ≡ upto (B.bank self.old.live).words self.old.next) }
+        ensures failed { OnErr result ((B.has_failed self.new.live ≡ true) ⊎ (B.has_failed self.new.spare ≡ true)
+            ⊎ (are_full (B.bank self.new.live) self.new.next ≡ true)) }
     {
         if self.next < cell_count(&self.live) {
             return Ok(());
@@ -232,6 +236,7 @@ impl<B: FlashBank + Drop> Pair<B> {
         ensures found { OnErr result ((upto_fence (B.bank self.new.live).words self.new.next ≡ upto (B.bank self.old.live).words self.old.next)
             ⊎ (upto_fence (B.bank self.new.live).words self.new.next ≡ insert (upto (B.bank self.old.live).words self.old.next) slot octets.now)) }
         ensures same { OnErr result (upto (B.bank self.new.live).words self.new.next ≡ upto (B.bank self.old.live).words self.old.next) }
+        ensures failed { OnErr result ((B.has_failed self.new.live ≡ true) ⊎ (B.has_failed self.new.spare ≡ true)) }
     {
         write_cell(&mut self.live, self.next, slot, octets)?;
         self.next += 1;
@@ -252,6 +257,8 @@ impl<B: FlashBank + Drop> Pair<B> {
         ensures found { OnErr result ((upto_fence (B.bank self.new.live).words self.new.next ≡ upto (B.bank self.old.live).words self.old.next)
             ⊎ (upto_fence (B.bank self.new.live).words self.new.next ≡ insert (upto (B.bank self.old.live).words self.old.next) slot octets.now)) }
         ensures same { OnErr result (upto (B.bank self.new.live).words self.new.next ≡ upto (B.bank self.old.live).words self.old.next) }
+        ensures failed { OnErr result ((B.has_failed self.new.live ≡ true) ⊎ (B.has_failed self.new.spare ≡ true)
+            ⊎ (are_full (B.bank self.new.live) self.new.next ≡ true)) }
     {
         self.make_room()?;
         self.append(slot, octets)
@@ -367,6 +374,7 @@ impl<B: FlashBank + Drop> Pair<B> {
         ensures records { OnOk result (IsOneOf (choice_of (B.bank self.old.live) self.old.next) (upto (B.bank self.new.live).words self.new.next)) }
         ensures held { OnErr result (AreHeld (B.bank self.new.live) (B.bank self.new.spare) self.new.next self.new.copied) }
         ensures among { OnErr result (AreAmong (choice_of (B.bank self.old.live) self.old.next) (B.bank self.new.live) self.new.next) }
+        ensures failed { OnErr result ((B.has_failed self.new.live ≡ true) ⊎ (B.has_failed self.new.spare ≡ true)) }
     {
         let Some(cells) = self.copied else {
             return self.settle();

@@ -127,6 +127,51 @@ fn opened(chip: &Chip, chance: &mut Chance, none: &mut u64) -> FlashKeeper<Bank>
     }
 }
 
+/// Reopens a keeper in its own banks until that goes well, over losses of power by chance.
+fn reopen(chip: &Chip, keeper: &mut FlashKeeper<Bank>, chance: &mut Chance) {
+    let mut tries = 0;
+    loop {
+        tries += 1;
+        let is_cut = tries < 10 && chance.below(3) > 0;
+        chip.start(if is_cut { cut(chance, 12) } else { [None; 2] });
+        match keeper.reopen() {
+            Ok(()) => return,
+            Err(OpenFault::Flash) if is_cut => {}
+            Err(fault) => panic!("{fault:?} at try {tries}"),
+        }
+    }
+}
+
+#[test]
+fn a_failed_keeper_is_reopened_in_its_own_banks() {
+    let (mut puts, mut reopened, mut none) = (0, 0, 0);
+    for seed in 0..runs(60) {
+        let mut chance = Chance(seed);
+        let slots = 1 + chance.below(5) as u32;
+        let chip = Chip::of_cells(2 * slots as usize + chance.below(8) as usize, seed);
+        let mut keeper = chip.format(slots as usize);
+        let mut judge = Judge::default();
+        for session in 0..60 {
+            let within = [4, 14, 60, 200][chance.below(4) as usize];
+            chip.start(cut(&mut chance, within));
+            while judge.put(&mut keeper, 1 + chance.below(u64::from(slots)) as u32, chance.octets()) {
+                puts += 1;
+            }
+            reopen(&chip, &mut keeper, &mut chance);
+            reopened += 1;
+            judge.opened(&keeper, slots, &format!("seed {seed}, session {session}, reopened"));
+            chip.start([None; 2]);
+            assert!(judge.put(&mut keeper, 1, chance.octets()), "seed {seed}, session {session}");
+            // A start finds what the keeper held.
+            if chance.below(2) == 0 {
+                keeper = opened(&chip, &mut chance, &mut none);
+                judge.opened(&keeper, slots, &format!("seed {seed}, session {session}, opened"));
+            }
+        }
+    }
+    println!("{puts} puts, {reopened} reopened keepers, openings that found no store {none}");
+}
+
 #[test]
 fn power_fails_anywhere_and_each_record_is_the_old_or_the_new_one() {
     let (mut puts, mut none, mut erases) = (0, 0, 0);
