@@ -17,7 +17,7 @@ import sys
 TOP = os.path.dirname(os.path.dirname(os.path.dirname(os.path.abspath(__file__))))
 # Lines that bring a meter to do what is no call of meter_host.
 BEYOND = {"bcast", "path", "scan", "choose", "checks", "cut", "counter", "number"}
-LOAD, OPEN, GRANT, NEIGHBOUR, RANDOM, JOIN, LEAVE, TIME, SEND, FRAME, BROKE = range(1, 12)
+LOAD, OPEN, GRANT, NEIGHBOUR, RANDOM, JOIN, LEAVE, TIME, SEND, FRAME, BROKE, VERSION = range(1, 13)
 ENDED, RECORD, SENT, UP, JOINED = range(0x80, 0x85)
 # The refusals of a call, from 1 on (docs/FORMATS.md).
 REFUSALS = {
@@ -53,6 +53,8 @@ class Meter:
         """Starts it over what it stored."""
         self.end()
         self.tool = subprocess.Popen([self.program], stdin=subprocess.PIPE, stdout=subprocess.PIPE)
+        if self.call(VERSION, struct.pack(">H", 1)).status != 0:
+            sys.exit(f"{self.program} does not speak version 1 of the items")
         for slot, octets in sorted(self.records.items()):
             self.call(LOAD, struct.pack(">I", slot) + octets)
         self.call(OPEN, self.eui + self.psk)

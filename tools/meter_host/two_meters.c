@@ -74,7 +74,7 @@ static void need(const char *what, int status, int wanted) {
 /* Starts a meter over what it stored. */
 static void start(struct node *node, const char *program) {
     uint8_t eui[8] = {0, 0, 0, 0, 0, 0, 0, (uint8_t)(1 + node->number)}, psk[16];
-    struct meter_device device = {node, store, send_frame, up, NULL};
+    struct meter_device device = {node, store, send_frame, up, NULL, 0};
     for (int k = 0; k < 16; k++)
         psk[k] = (uint8_t)(16 * node->number + k);
     need("start", meter_start(&node->meter, program, device), METER_DONE);

@@ -10,6 +10,7 @@ use Rattle.plc_base.specs.Streams.{SourceState, SinkState, SourceFaults, HasWrit
 use Rattle.node_rules.specs.Memory as memory
 use Rattle.node_rules.specs.RestartStates.{memory_of}
 use Rattle.meter_node.specs.MeterStates.{MeterState, node_of}
+use Rattle.host_calls.specs.Calls.{number_at}
 use Rattle.host_calls.specs.Items.{Item, spelling}
 use Rattle.host_calls.specs.ItemReader.{IsOver, HasFailed, IsTorn, IsLong}
 use Rattle.host_calls.specs.declared.answers.Given.{Given}
@@ -56,10 +57,22 @@ pub data Phase : Type 0 where
 abbrev pub no_records : Store
 no_records = record { records = map.empty; faults = 0; known_cut = None; listed = Some [] }
 
--- Before the meter is opened: the record of an item is taken in, or it is none that may be.
+-- Two octets are the version of the items.
+pub record IsVersion (octets : List ℕ) : Type 0 where
+  pub long : length octets ≡ 2
+  pub one : number_at 2 0 octets ≡ 1
+
+-- whether the program speaks the version of these octets
+abbrev pub SaysVersion : List ℕ → Status → Type 0
+SaysVersion octets status.Done = IsVersion octets
+SaysVersion octets status.Malformed = IsVersion octets → ⊥
+SaysVersion octets ended = ⊥
+
+-- Before the meter is opened: the record of an item is taken in, or the version that it asks for is this one, or it is none of the two.
 abbrev pub IsTaken : (kind : ℕ) → List ℕ → Store → Status → Store → Type 0
 IsTaken kind octets old ended new =
-    ((kind ≡ 1) × IsLoaded octets old ended new) ⊎ ((kind ≢ 1) × (ended ≡ status.Malformed) × (new ≡ old))
+    ((kind ≡ 1) × IsLoaded octets old ended new) ⊎ (((kind ≡ 12) × SaysVersion octets ended × (new ≡ old))
+    ⊎ ((kind ≢ 1) × (kind ≢ 12) × (ended ≡ status.Malformed) × (new ≡ old)))
 
 -- The meter of 24 octets, its EUI-64 and its pair key, over the records that were taken in.
 pub record IsOpened (old : Store) (octets : List ℕ) (new : MeterState) : Type 0 where

@@ -1,9 +1,9 @@
-//! Holds a meter for an owner who talks over standard input and output, in items (`host_items`, `host_calls`). `tools/meter_host/meter.h` is the
+//! Holds a meter for an owner who talks over standard input and output, in items (`host_calls`). `tools/meter_host/meter.h` is the
 //! owner's side in C.
 //!
-//! First the owner loads each record that it has stored, and opens the meter. Then each item is one call of the meter. Its answer is the
-//! puts of the call, the frames, a datagram that is handed up, and last how the call ended. The owner stores the puts in order, and only then
-//! sends the frames. After Halted, or where a store fails, it starts another program over what it stored.
+//! First the owner asks for the version of the items, if it wants, loads each record that it has stored, and opens the meter. Then each item is one call
+//! of the meter. Its answer is the puts of the call, the frames, a datagram that is handed up, and last how the call ended. The owner stores the puts
+//! in order, and only then sends the frames. After Halted, or where a store fails, it starts another program over what it stored.
 //!
 //! What its functions promise, by the names of their clauses:
 //!

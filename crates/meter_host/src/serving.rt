@@ -1,11 +1,13 @@
 //! The two phases: records are loaded, and then the meter is called.
 ghost use Rattle.std.specs.Prelude.{◌≡◌, ◌≢◌, [], Some, IfOk};
 ghost use Rattle.plc_base.specs.Streams.{SourceFaults, SourceRose, SinkRose};
-ghost use Rattle.meter_host.specs.ProgramRuns.{outcome_number, outcome_of, no_records, Loads, Runs, IsTaken, Opens, NextIs, LoadsAll, Says, Serves};
+ghost use Rattle.meter_host.specs.ProgramRuns.{outcome_number, outcome_of, no_records, Loads, Runs, SaysVersion, IsTaken, Opens, NextIs, LoadsAll, Says};
+ghost use Rattle.meter_host.specs.ProgramRuns.{Serves};
 ghost use Rattle.host_calls.specs.Answers.{status_text};
 
 use crate::hosting::Host;
 use crate::loading::Loading;
+use byteorder::{BigEndian, ByteOrder};
 use host_calls::{Given, ItemFault, ItemOctets, Status, read_item, write_status};
 use plc_base::{Eui, Key, Sink, Source, octets_at};
 use plc_station::Buffers;
@@ -48,6 +50,10 @@ impl Outcome {
 const LOAD: u8 = 0x01;
 /// The meter is to be opened.
 const OPEN: u8 = 0x02;
+/// Whether the program speaks a version of the items.
+const VERSION: u8 = 0x0C;
+/// The version of the items.
+const ITEMS_VERSION: u16 = 1;
 
 // Reads the next item, its octets into `item`, and answers its kind.
 fn next_item<S: Source>(source: &mut S, item: &mut ItemOctets) -> Result<u8, Outcome>
@@ -63,15 +69,31 @@ fn next_item<S: Source>(source: &mut S, item: &mut ItemOctets) -> Result<u8, Out
     }
 }
 
-// Takes in the record of an item, if it is one.
+// Whether the two octets of an item are the version of the items.
+fn answer_version(octets: &[u8]) -> Status
+    ensures { SaysVersion octets.now result }
+{
+    if octets.len() != 2 {
+        return Status::Malformed;
+    }
+    if BigEndian::read_u16(octets) != ITEMS_VERSION {
+        return Status::Malformed;
+    }
+    Status::Done
+}
+
+// Takes in the record of an item, or says whether the program speaks the version that it asks for, if it does one of the two.
 fn take_in(loading: &mut Loading, kind: u8, octets: &[u8]) -> Status
     ensures taken { IsTaken kind octets.now loading.old result loading.new }
     ensures none { loading.new.listed ≡ loading.old.listed }
 {
-    if kind != LOAD {
-        return Status::Malformed;
+    if kind == LOAD {
+        return loading.load(octets);
     }
-    loading.load(octets)
+    if kind == VERSION {
+        return answer_version(octets);
+    }
+    Status::Malformed
 }
 
 // Takes in records until the meter is to be opened. The item that says so is then in `item`.

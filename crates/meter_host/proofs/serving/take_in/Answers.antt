@@ -1,5 +1,6 @@
 use Rattle.meter_host.proofs.Gaps.{same_list}
 use Rattle.meter_host.proofs.serving.take_in.Goals as goal
 
-pub returns-clause-none : goal.returns-clause-none
-returns-clause-none c = same_list c.args.octets.now c.args.loading.now c.load.result c.load.new.self c.load.ensures.loaded
+pub returns-then-kind-eq-LOAD-clause-none : goal.returns-then-kind-eq-LOAD-clause-none
+returns-then-kind-eq-LOAD-clause-none c =
+    same_list c.args.octets.now c.args.loading.now c.load.result c.load.new.self c.load.ensures.loaded
