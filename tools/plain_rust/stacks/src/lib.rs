@@ -5,7 +5,8 @@
 use core::ffi::c_void;
 use core::hint::black_box;
 use flash_keeper::{FlashBank, FlashKeeper};
-use plc_base::{DatagramBuf, Eui, Failed, Keeper, Key, KeyIndex, LinkCost, Out, RandomOctets, Record, Short};
+use plc_base::{Eui, Failed, Keeper, Key, KeyIndex, LinkCost, Out, RandomOctets, Record, Short};
+use plc_station::Buffers;
 
 unsafe extern "C" {
     fn bank_read(bank: u32, at: usize) -> u64;
@@ -74,7 +75,7 @@ pub fn next_event() -> &'static Event {
 /// What a node is lent.
 pub struct Lent {
     pub out: Out,
-    pub datagram: DatagramBuf,
+    pub buffers: Buffers,
 }
 
 /// Looks at an answer as its caller does, so that the compiler leaves nothing of it out.

@@ -13,7 +13,9 @@ mod calls {
     use coordinator::Coordinator;
     use core::hint::black_box;
     use core::mem::MaybeUninit;
-    use plc_base::{DatagramBuf, FrameBuf, Out};
+    use node_rules::Came;
+    use plc_base::{FrameBuf, Out};
+    use plc_station::Buffers;
     use rattle_std::alloc::Global;
     use stacks::{Event, Flash, Lent, done, flash, next_event};
 
@@ -44,7 +46,12 @@ mod calls {
     fn hear(node: &mut Node, lent: &mut Lent, event: &Event) -> bool {
         let mut payload = FrameBuf::new();
         let Ok(got) = node.station().accept(event.octets(), &mut payload) else { return false };
-        done(node.hear(got, event.cost, 0, event.now, &mut lent.datagram, &mut lent.out))
+        done(node.hear(got, event.cost, 0, event.now, &mut lent.buffers.datagram, &mut lent.out))
+    }
+
+    fn receive(node: &mut Node, lent: &mut Lent, event: &Event) -> bool {
+        let came = Came { cost: event.cost, note: 0, time: event.now };
+        done(node.receive(event.octets(), came, &mut lent.buffers, &mut lent.out))
     }
 
     fn send(node: &mut Node, lent: &mut Lent, event: &Event) -> bool {
@@ -100,18 +107,24 @@ mod calls {
         true
     }
 
+    fn next_end(node: &mut Node, _: &mut Lent, _: &Event) -> bool {
+        black_box(node.next_end()).is_some()
+    }
+
     fn restart(node: &mut Node, _: &mut Lent, _: &Event) -> bool {
         done(node.restart())
     }
 
     type Call = fn(&mut Node, &mut Lent, &Event) -> bool;
-    static CALLS: [Call; 16] =
-        [accept, hear, send, send_command, send_local, broke, challenge, activate, kick, allow, depot, rekey, activate_self, give_random, tick, restart];
+    static CALLS: [Call; 18] = [
+        accept, hear, receive, send, send_command, send_local, broke, challenge, activate, kick, allow, depot, rekey, activate_self, give_random, tick,
+        next_end, restart,
+    ];
 
     #[unsafe(no_mangle)]
     extern "C" fn program() {
         let Ok(out) = Out::new(Global) else { return };
-        unsafe { (&mut *(&raw mut LENT)).write(Lent { out, datagram: DatagramBuf::new() }) };
+        unsafe { (&mut *(&raw mut LENT)).write(Lent { out, buffers: Buffers::new() }) };
         black_box(open(next_event()));
         let (node, lent) = unsafe { ((&mut *(&raw mut NODE)).assume_init_mut(), (&mut *(&raw mut LENT)).assume_init_mut()) };
         loop {

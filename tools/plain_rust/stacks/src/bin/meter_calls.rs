@@ -13,7 +13,9 @@ mod calls {
     use core::hint::black_box;
     use core::mem::MaybeUninit;
     use meter_node::Meter;
-    use plc_base::{DatagramBuf, FrameBuf, Grant, Out};
+    use node_rules::Came;
+    use plc_base::{FrameBuf, Grant, Out};
+    use plc_station::Buffers;
     use rattle_std::alloc::Global;
     use stacks::{Event, Flash, Lent, done, flash, next_event};
 
@@ -28,7 +30,7 @@ mod calls {
     #[inline(never)]
     fn new() -> bool {
         let Ok(out) = Out::new(Global) else { return false };
-        unsafe { (&mut *(&raw mut LENT)).write(Lent { out, datagram: DatagramBuf::new() }) };
+        unsafe { (&mut *(&raw mut LENT)).write(Lent { out, buffers: Buffers::new() }) };
         true
     }
 
@@ -51,7 +53,12 @@ mod calls {
     fn hear(node: &mut Node, lent: &mut Lent, event: &Event) -> bool {
         let mut payload = FrameBuf::new();
         let Ok(got) = node.station().accept(event.octets(), &mut payload) else { return false };
-        done(node.hear(got, event.cost, 0, event.now, &mut lent.datagram, &mut lent.out))
+        done(node.hear(got, event.cost, 0, event.now, &mut lent.buffers.datagram, &mut lent.out))
+    }
+
+    fn receive(node: &mut Node, lent: &mut Lent, event: &Event) -> bool {
+        let came = Came { cost: event.cost, note: 0, time: event.now };
+        done(node.receive(event.octets(), came, &mut lent.buffers, &mut lent.out))
     }
 
     fn send(node: &mut Node, lent: &mut Lent, event: &Event) -> bool {
@@ -92,13 +99,17 @@ mod calls {
         done(node.station().broke(event.short))
     }
 
+    fn next_end(node: &mut Node, _: &mut Lent, _: &Event) -> bool {
+        black_box(node.next_end()).is_some()
+    }
+
     fn restart(node: &mut Node, _: &mut Lent, _: &Event) -> bool {
         done(node.restart())
     }
 
     type Call = fn(&mut Node, &mut Lent, &Event) -> bool;
-    static CALLS: [Call; 12] =
-        [accept, hear, send, send_command, send_local, join, give_random, provision, leave, tick, broke, restart];
+    static CALLS: [Call; 14] =
+        [accept, hear, receive, send, send_command, send_local, join, give_random, provision, leave, tick, next_end, broke, restart];
 
     #[unsafe(no_mangle)]
     extern "C" fn program() {
