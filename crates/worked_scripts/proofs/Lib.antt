@@ -13,3 +13,4 @@ pub mod FurtherScripts
 pub mod ArrivalScripts
 pub mod DiscoveryScripts
 pub mod FateScripts
+pub mod AdmissionScripts

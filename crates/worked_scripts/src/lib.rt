@@ -3,6 +3,7 @@
 //! The scripts stand in `specs/`; a function that does nothing carries each of them.
 #![tactic(auto)]
 
+mod admission_scripts;
 mod arrival_scripts;
 mod call_scripts;
 mod discovery_scripts;
@@ -18,6 +19,11 @@ mod store_scripts;
 mod waiting_scripts;
 mod way_scripts;
 
+pub use admission_scripts::packets_have_to_pass;
+pub use admission_scripts::the_coordinator_lets_it_in;
+pub use admission_scripts::the_meter_is_outside;
+pub use admission_scripts::the_meter_joins;
+pub use admission_scripts::the_meter_may_join;
 pub use arrival_scripts::a_datagram_arrives;
 pub use arrival_scripts::a_datagram_arrives_link_by_link;
 pub use arrival_scripts::a_datagram_in_pieces_arrives;

@@ -1,0 +1,10 @@
+mod PlainFrames
+mod PlainComings
+mod PlainPlans
+mod FirstPackets
+mod NetworkPackets
+mod MeterSteps
+mod CoordinatorSteps
+mod NodesHear
+mod Courses
+mod AirJoinings

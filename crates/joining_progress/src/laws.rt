@@ -1,0 +1,15 @@
+//! Laws of joinings that come to their end: each carried by a function that does nothing.
+ghost use Rattle.joining_progress.specs.Joinings.{JoiningsArrive};
+ghost use Rattle.joining_progress.specs.Packets.{NetworkPacketsPass};
+
+/// The packets of EAP-PSK that the network's ends make pass: in each session with names of 8 octets, random values of 16 and a grant in its ranges, what
+/// one end makes the other one takes.
+pub fn network_packets_pass()
+    ensures { NetworkPacketsPass }
+{}
+
+/// A meter that the coordinator allows with the same pair key, where both have a random value and the coordinator has room for a session, and that asks
+/// it over the air, has joined when six messages have come, each once.
+pub fn joinings_arrive()
+    ensures { JoiningsArrive }
+{}

@@ -1,0 +1,34 @@
+//! A meter joins over the air where it may; where one thing alone is lacking, it does not.
+ghost use Rattle.worked_scripts.specs.AdmissionScripts.{TheMeterMayJoin, TheMeterJoins, TheMeterIsOutside, TheCoordinatorLetsItIn, PacketsHaveToPass};
+
+/// A meter that the coordinator allows may join over the air.
+#[tactic(auto, using(crate::proofs::AdmissionScripts::the_meter_may_join))]
+pub fn the_meter_may_join()
+    ensures { TheMeterMayJoin }
+{}
+
+/// It joins.
+#[tactic(auto, using(crate::proofs::AdmissionScripts::the_meter_joins))]
+pub fn the_meter_joins()
+    ensures { TheMeterJoins }
+{}
+
+/// A meter does not join where its node is not there, is halted or loses power, where it is joined, or has no random value; nor where its EUI has seven
+/// octets. Where another node before it has its EUI, the joining that is done is the other one's.
+#[tactic(auto, using(crate::proofs::AdmissionScripts::the_meter_is_outside))]
+pub fn the_meter_is_outside()
+    ensures { TheMeterIsOutside }
+{}
+
+/// Nor where the coordinator is halted, loses power or is not joined, or has the meter's EUI, one of seven octets, or another address; where it does not
+/// allow the meter, has another pair key for it, eight sessions, no random value, or one of 15 octets.
+#[tactic(auto, using(crate::proofs::AdmissionScripts::the_coordinator_lets_it_in))]
+pub fn the_coordinator_lets_it_in()
+    ensures { TheCoordinatorLetsItIn }
+{}
+
+/// Nor where a packet is not taken, or the run may not have the events.
+#[tactic(auto, using(crate::proofs::AdmissionScripts::packets_have_to_pass))]
+pub fn packets_have_to_pass()
+    ensures { PacketsHaveToPass }
+{}
