@@ -44,15 +44,14 @@ codegen-units = 1
 
 
 def read_crates(repository):
-    """What each crate of the repository stands on, by crates.txt. A static library has no place in Rust, so it is none of them."""
+    """What each crate of the repository stands on, by crates.txt. A static library is an ordinary one in Rust: node_c gives C its calls."""
     stands_on = {}
     with open(os.path.join(repository, "crates.txt"), encoding="utf-8") as lines:
         for line in lines:
             line = line.split("#")[0].strip()
             if line:
                 name, _, rest = line.partition(":")
-                if name.split()[1:] != ["staticlib"]:
-                    stands_on[name.strip()] = rest.split()
+                stands_on[name.split()[0]] = rest.split()
     return stands_on
 
 
