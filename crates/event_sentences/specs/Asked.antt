@@ -1,5 +1,6 @@
 -- What came of an event that somebody asked for, and that was answered ok, in words.
-use Rattle.std.specs.Prelude.{ℕ, ◌==◌, List, [], ◌∷◌, length, codes, Option, None, Some, if◌then◌else◌}
+use Rattle.std.specs.Prelude.{ℕ, ◌==◌, nat_le, List, [], ◌∷◌, length, codes, Option, None, Some, if◌then◌else◌}
+use Rattle.plc_base.specs.declared.limits.TheConstants.{GREATEST_COUNTER}
 use Rattle.line_events.specs.declared.event.Answer.{Answer}
 use Rattle.line_events.specs.declared.event.Answer.TheVariants as answers
 use Rattle.line_script.specs.AnswerWords.{answer_word}
@@ -57,9 +58,16 @@ activated_text meter index s =
     if meter == 0 then parts_text (Words (codes "the coordinator seals with key ") ∷ Number index ∷ Words (codes " from now") ∷ [])
     else tells_to_seal_text meter index s
 
+-- a meter is shut out, and no command says so to it: the coordinator has no counter left, or no route to it
+abbrev pub kicked_silently_text : ℕ → Scene → List ℕ
+kicked_silently_text meter s =
+    if nat_le GREATEST_COUNTER s.shown.next_counter
+    then parts_text (Node meter ∷ Words (codes " is shut out; no counter is left, so it is not told") ∷ [])
+    else parts_text (Node meter ∷ Words (codes " is shut out; no route to it, so it is not told") ∷ [])
+
 abbrev pub kicked_text : ℕ → Scene → List ℕ
 kicked_text meter s =
-    if length s.flights == 0 then parts_text (Node meter ∷ Words (codes " is shut out; no route to it, so it is not told") ∷ [])
+    if length s.flights == 0 then kicked_silently_text meter s
     else parts_text (Node meter ∷ Words (codes " is shut out; ") ∷ Words (named meants.All s) ∷ Words (codes " tells it") ∷ [])
 
 abbrev pub asks_to_join_text : ℕ → Scene → List ℕ

@@ -8,6 +8,7 @@ use crate::moment::Moment;
 use line_events::Answer;
 use line_record::Act;
 use line_script::answer_word;
+use plc_base::GREATEST_COUNTER;
 use sentence_parts::{Part, node, number, place, words};
 use std::alloc::AllocError;
 
@@ -119,14 +120,27 @@ impl<'a> Moment<'a> {
         self.tells_to_seal(meter, index)
     }
 
+    // A meter is shut out, and no command says so to it.
+    fn kicked_silently(&self, meter: u32) -> Result<String, AllocError>
+        ensures { IfOk result (λ text. string_bytes text ≡ spec_asked.kicked_silently_text meter (scene_of self.now)) }
+    {
+        if self.shown.next_counter >= GREATEST_COUNTER {
+            return self.say(&[
+                node(meter),
+                words(" is shut out; no counter is left, so it is not told"),
+            ]);
+        }
+        self.say(&[
+            node(meter),
+            words(" is shut out; no route to it, so it is not told"),
+        ])
+    }
+
     fn kicked(&self, meter: u32) -> Result<String, AllocError>
         ensures { IfOk result (λ text. string_bytes text ≡ spec_asked.kicked_text meter (scene_of self.now)) }
     {
         if self.flights.len() == 0 {
-            return self.say(&[
-                node(meter),
-                words(" is shut out; no route to it, so it is not told"),
-            ]);
+            return self.kicked_silently(meter);
         }
         let named = self.named(Meant::All)?;
         self.say(&[
