@@ -33,5 +33,5 @@ pub use incidents::Found;
 pub use recording::{Counted, RecordFault, Recording};
 pub use remarks::Remark;
 pub use simulation::{Flown, Kept, Simulation};
-pub use start::{Made, has_attackers};
+pub use start::{Made, has_attackers, place_of};
 pub use work::{Job, PendingWork, Stop};

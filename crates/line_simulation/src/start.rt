@@ -89,8 +89,8 @@ fn scattered(
     }
 }
 
-// The place of a plan. None where no path led to every meter in 1,000 draws.
-fn place_of(alloc: Global, seed: u64, plan: &PlacePlan) -> Result<Option<Place>, AllocError>
+/// The place of a plan, as the draws of a seed have it. None where no path led to every meter in 1,000 draws.
+pub fn place_of(alloc: Global, seed: u64, plan: &PlacePlan) -> Result<Option<Place>, AllocError>
     ensures { IfOk result (IsPlaced seed plan.now) }
 {
     match &plan.kind {
