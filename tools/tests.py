@@ -1,5 +1,7 @@
 """Tests of the tools, on texts that are written here: python3 tools/tests.py. LINE_REPLAY names the program, as .ci/rows takes it."""
+import hashlib
 import os
+import shutil
 import subprocess
 import tempfile
 import unittest
@@ -246,6 +248,45 @@ class Program(unittest.TestCase):
             tool.terminate()
             self.assertEqual(tool.wait(10), 143)
             self.assertIn(b"ended by signal 15", tool.stderr.read())
+
+
+class Dist(unittest.TestCase):
+    """What a maker vendors is made, has its sums, and builds without a warning."""
+
+    def test_it_is_made_and_builds(self):
+        with tempfile.TemporaryDirectory() as room:
+            status, said, errors = ran("tools/plain_rust/dist", f"{room}/dist")
+            self.assertEqual(status, 0, errors)
+            self.assertIn("laws left out", said)
+            texts = self.sums(f"{room}/dist")
+            for path, text in texts.items():
+                self.assertNotIn("allow(unused", text, path)
+                self.assertFalse(path.startswith("rust/") and "A law, proved in Rattle" in text, path)
+            self.builds(f"{room}/dist")
+
+    def sums(self, folder):
+        """Holds the files against their sums, and returns them by their names."""
+        with open(f"{folder}/MANIFEST", encoding="utf-8") as file:
+            sums = {path: known for known, path in (line.rstrip("\n").split("  ", 1) for line in file)}
+        texts = {}
+        for path, known in sums.items():
+            with open(f"{folder}/{path}", "rb") as file:
+                octets = file.read()
+            self.assertEqual(hashlib.sha256(octets).hexdigest(), known, path)
+            texts[path] = octets.decode()
+        return texts
+
+    def builds(self, folder):
+        """Builds the crate, with all features and with the one that is always there, where cargo and its crates are."""
+        settings = f"{os.environ.get('KENNELMORN_PROGRAMS', f'{TOP}/target/programs')}/plain/.cargo/config.toml"
+        if not shutil.which("cargo") or not os.path.exists(settings):
+            self.skipTest("no cargo, or none of the crates that it needs")
+        os.makedirs(f"{folder}/rust/.cargo")
+        shutil.copy(settings, f"{folder}/rust/.cargo/config.toml")
+        how = {**os.environ, "CARGO_NET_OFFLINE": "true", "RUSTFLAGS": "-D warnings"}
+        for words in (("--all-features",), ("--no-default-features",), ()):
+            done = subprocess.run(["cargo", "check", "-q", *words], cwd=f"{folder}/rust", env=how, capture_output=True, text=True, check=False)
+            self.assertEqual((done.returncode, done.stderr), (0, ""), words)
 
 
 if __name__ == "__main__":

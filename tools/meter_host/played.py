@@ -2,12 +2,14 @@
 """Has the program meter_host play the meters of examples/, by its items alone, and compares it with what line_replay reported of them.
 
     tools/meter_host/played.py METER_HOST [EXAMPLE..]    the path of the program, and examples by name; else all whose lines are calls of a meter
+    tools/meter_host/played.py METER_HOST --write FILE   also writes each call with its answer, and what each meter has stored at the end, as JSON
 
 Each meter of the script is a program of its own, and gets what the script's lines bring to it: a grant of the workshop, a neighbour, a random value, to
 join, to send, a frame. The coordinator is that of the report: its frames are taken from there. What a meter sends has to be its flights of the report,
 to the octet, so line_replay's coordinator would answer it as it did; and how each call ended, that it joined with this address, and what it handed up
 have to be what the report says. It is the owner's side in Python, with the format of docs/FORMATS.md, "Calls of a meter and their answers".
 """
+import json
 import os
 import re
 import struct
@@ -46,12 +48,13 @@ class Meter:
     """A meter that meter_host holds, with its store."""
 
     def __init__(self, program, eui, psk):
-        self.program, self.eui, self.psk, self.records, self.tool = program, eui, psk, {}, None
+        self.program, self.eui, self.psk, self.records, self.tool, self.calls = program, eui, psk, {}, None, []
         self.start()
 
     def start(self):
         """Starts it over what it stored."""
         self.end()
+        self.calls.append("starts")
         self.tool = subprocess.Popen([self.program], stdin=subprocess.PIPE, stdout=subprocess.PIPE)
         if self.call(VERSION, struct.pack(">H", 1)).status != 0:
             sys.exit(f"{self.program} does not speak version 1 of the items")
@@ -74,9 +77,10 @@ class Meter:
         """Makes a call, stores what it gives, and returns the rest of its answer."""
         self.tool.stdin.write(struct.pack(">BH", kind, len(octets)) + octets)
         self.tool.stdin.flush()
-        answer = Answer()
+        answer, items = Answer(), []
         while answer.status is None:
             it, given = self.item()
+            items.append([it, given.hex()])
             if it == RECORD:
                 self.records[struct.unpack(">I", given[:4])[0]] = given[4:]
             elif it == SENT:
@@ -89,14 +93,21 @@ class Meter:
                 answer.status = given[0]
                 if answer.status == 1:
                     answer.refusal = REFUSALS[kind].split()[given[1] - 1]
+        if kind not in (LOAD, VERSION):
+            self.calls.append({"in": [kind, octets.hex()], "out": items})
         return answer
+
+    def written(self):
+        """What it was asked, answered and stored."""
+        records = {f"{slot:04x}": it.hex() for slot, it in sorted(self.records.items())}
+        return {"eui": self.eui.hex(), "psk": self.psk.hex(), "calls": self.calls, "records": records}
 
 
 class Play:
     """A script with its report, whose meters the program holds."""
 
     def __init__(self, program, name):
-        self.program, self.meters, self.addresses, self.flights, self.now, self.seen = program, [None], {0: 0}, {}, 0, set()
+        self.program, self.name, self.meters, self.addresses, self.flights, self.now, self.seen = program, name, [None], {0: 0}, {}, 0, set()
         with open(f"{TOP}/examples/{name}.script", encoding="utf-8") as file:
             self.lines = [it.split() for it in file if it.strip() and not it.startswith("#")]
         with open(f"{TOP}/examples/{name}.frames.report", encoding="utf-8") as file:
@@ -188,10 +199,16 @@ class Play:
 
 def main(program, *names):
     """Plays the examples."""
+    written = names[1] if names[:1] == ("--write",) else None
+    names = names[2:] if written else names
     known = sorted(it[:-7] for it in os.listdir(f"{TOP}/examples") if it.endswith(".script"))
     plays = [play for play in (Play(program, name) for name in names or known) if not BEYOND & {it[0] for it in play.lines}]
     for play in plays:
         play.run()
+    if written:
+        with open(written, "w", encoding="utf-8") as file:
+            json.dump([{"example": play.name, "meters": [it.written() for it in play.meters[1:]]} for play in plays], file, indent=1)
+            file.write("\n")
     seen = {it: sum(it in play.seen for play in plays) for it in ("join", "up")}
     meters, lines = sum(len(it.meters) - 1 for it in plays), sum(len(it.lines) for it in plays)
     print(f"meter_host: {meters} meters played {len(plays)} examples, {lines} lines, as line_replay reported them: in {seen['join']} a meter joined, "
