@@ -1,12 +1,11 @@
 -- What is kept still began at its event, and no later event ended it.
-use Rattle.std.proofs.Common.{◌≡◌, ℕ, zero, suc, ◌+◌, ◌-◌, ◌≤◌, ◌<◌, ◌==◌, Bool, true, false, not, List, [], ◌∷◌, ◌++◌, length, Option, Some, None}
-use Rattle.std.proofs.Common.{refl, sym, ap, subst, ◌∙◌, ◌⊎◌, inl, inr, ⊎_elim, arith, length-append}
+use Rattle.std.proofs.Common.{◌≡◌, ℕ, suc, ◌+◌, ◌-◌, ◌<◌, ◌==◌, Bool, true, false, not, List, [], ◌∷◌, ◌++◌, length, Option, Some, None}
+use Rattle.std.proofs.Common.{refl, sym, ap, subst, ◌∙◌, ◌⊎◌, ⊎_elim, arith, length-append}
 use Rattle.std.proofs.lemmas.List.{append-nil, append_assoc}
-use Rattle.std.specs.Prelude.{◌&&◌, ◌||◌, All, if◌then◌else◌, is_some, nat_le, slice_get}
+use Rattle.std.specs.Prelude.{◌&&◌, ◌||◌, All, if◌then◌else◌, is_some, nat_le}
 use Rattle.std.specs.List.{list_any}
-use Rattle.std.proofs.lemmas.Bool.{and_parts, ne_eqb}
+use Rattle.std.proofs.lemmas.Bool.{and_parts}
 use Rattle.std.proofs.lemmas.Option.{none-some, same_Some}
-use Rattle.store_tables.proofs.SlotTables.{slice_get-push}
 use Rattle.line_progress.specs.Lists.{Among, Here, Later}
 use Rattle.line_record.specs.declared.act.Act.{Act}
 use Rattle.line_record.specs.declared.act.Act.TheVariants as acts
@@ -26,55 +25,11 @@ use Rattle.line_record.specs.Stories.{Stories, announced, event_by, event_seen, 
 use Rattle.line_record.specs.Stories.{kept_ended, kept_seen, last_owner, may_leave, message_story, next_event, no_stories, readied, stories_after}
 use Rattle.line_record.specs.Stories.{settled, stories_of, record_seen, up_by, up_keeping, up_kept}
 use Rattle.line_record.proofs.Counts.{one_more, seen, settled_count}
+use Rattle.story_laws.proofs.Numbered.{kept_number, last_number, pushed_number, within}
 use Rattle.story_laws.specs.Keepings.{HasBegun, IsGathered, IsKeptSince, IsMessage, KeptAreSince, MakesNone, Waits}
 
 true_false : true ≡ false → ⊥
 true_false e = cc
-
--- # Numbers of events
-
-not_zero : (n : ℕ) → (suc n == 0) ≡ false
-not_zero n = ne_eqb (suc n) 0 (λ e. absurd (omega (arith, e)))
-
-number_place : (xs : List RecordedEvent) (n : ℕ) → numbered xs (suc n) ≡ slice_get xs n
-number_place xs n =
-    ap (λ (b : Bool). if b then None else slice_get xs (suc n - 1)) (not_zero n) ∙ ap (λ (k : ℕ). slice_get xs k) (omega arith)
-
-place_within : (xs : List RecordedEvent) (n : ℕ) (x : RecordedEvent) → slice_get xs n ≡ Some x → n < length xs
-place_within [] n x is = absurd (none-some x is)
-place_within (y ∷ xs) zero x is = omega arith
-place_within (y ∷ xs) (suc n) x is = let inside = place_within xs n x is in omega (arith, inside)
-
-within : (xs : List RecordedEvent) (n : ℕ) (x : RecordedEvent) → numbered xs n ≡ Some x → n ≤ length xs
-within xs zero x is = omega arith
-within xs (suc n) x is = let inside = place_within xs n x (sym (number_place xs n) ∙ is) in omega (arith, inside)
-
-pushed_place : (xs : List RecordedEvent) (y : RecordedEvent) (k : ℕ) (x : RecordedEvent) → slice_get (xs ++ (y ∷ [])) k ≡ Some x
-    → (slice_get xs k ≡ Some x) ⊎ ((k ≡ length xs) × (x ≡ y))
-pushed_place [] y zero x is = inr (refl, sym (same_Some y x is))
-pushed_place [] y (suc k) x is = absurd (none-some x is)
-pushed_place (z ∷ xs) y zero x is = inl is
-pushed_place (z ∷ xs) y (suc k) x is =
-    ⊎_elim (λ old. inl old) (λ (new : (k ≡ length xs) × (x ≡ y)). inr (ap suc new.0, new.1)) (pushed_place xs y k x is)
-
-pushed_number : (xs : List RecordedEvent) (y : RecordedEvent) (k : ℕ) (x : RecordedEvent) → numbered (xs ++ (y ∷ [])) k ≡ Some x
-    → (numbered xs k ≡ Some x) ⊎ ((k ≡ length xs + 1) × (x ≡ y))
-pushed_number xs y zero x is = absurd (none-some x is)
-pushed_number xs y (suc k) x is =
-    ⊎_elim (λ old. inl (number_place xs k ∙ old)) (λ (new : (k ≡ length xs) × (x ≡ y)). inr (omega (arith, new.0), new.1))
-    (pushed_place xs y k x (sym (number_place (xs ++ (y ∷ [])) k) ∙ is))
-
-kept_place : (xs : List RecordedEvent) (y : RecordedEvent) (k : ℕ) (x : RecordedEvent) → slice_get xs k ≡ Some x → slice_get (xs ++ (y ∷ [])) k ≡ Some x
-kept_place [] y k x is = absurd (none-some x is)
-kept_place (z ∷ xs) y zero x is = is
-kept_place (z ∷ xs) y (suc k) x is = kept_place xs y k x is
-
-kept_number : (xs : List RecordedEvent) (y : RecordedEvent) (k : ℕ) (x : RecordedEvent) → numbered xs k ≡ Some x → numbered (xs ++ (y ∷ [])) k ≡ Some x
-kept_number xs y zero x is = absurd (none-some x is)
-kept_number xs y (suc k) x is = number_place (xs ++ (y ∷ [])) k ∙ kept_place xs y k x (sym (number_place xs k) ∙ is)
-
-last_number : (xs : List RecordedEvent) (y : RecordedEvent) → numbered (xs ++ (y ∷ [])) (length xs + 1) ≡ Some y
-last_number xs y = ap (λ (k : ℕ). numbered (xs ++ (y ∷ [])) k) (omega arith) ∙ number_place (xs ++ (y ∷ [])) (length xs) ∙ slice_get-push xs y
 
 -- # What does not end anything
 

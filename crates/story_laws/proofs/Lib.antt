@@ -7,3 +7,6 @@ mod Ends
 mod Keepings
 mod KeptRuns
 mod Waits
+mod Numbered
+mod Fates
+mod FateRuns

@@ -1,3 +1,4 @@
 pub mod Ends
+pub mod Fates
 pub mod Keepings
 pub mod KeptRuns

@@ -1,5 +1,6 @@
 //! Laws of what stories say: each stands as the contract of a function that does nothing.
 ghost use Rattle.story_laws.specs.Ends.{DropsAreEnds, EndsAreRecorded, RecordedEndsAreSo};
+ghost use Rattle.story_laws.specs.Fates.{FatesAreSo, HearingsAreSo};
 ghost use Rattle.story_laws.specs.Keepings.{KeptAreSince, WaitsAreKept};
 ghost use Rattle.story_laws.specs.KeptRuns.{RunsKeepIt};
 
@@ -31,4 +32,15 @@ pub fn runs_keep_it()
 /// A datagram that is answered Waiting is kept by its story from then on, where none of the flights of its event may be what waited.
 pub fn waits_are_kept()
     ensures { WaitsAreKept }
+{}
+
+/// Of a run and its record: what the stories say became of a flight is so. It came to its node, was lost, or never came there; and of several hearings
+/// the one counts that was accepted first, or where none was, the first.
+pub fn fates_are_so()
+    ensures { FatesAreSo }
+{}
+
+/// Where an event brings a flight to its node by the record, the entry of the run delivers it there, or injects its very octets.
+pub fn hearings_are_so()
+    ensures { HearingsAreSo }
 {}
