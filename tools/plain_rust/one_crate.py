@@ -198,7 +198,8 @@ def with_contracts(text):
             continue
         margin = re.match(r"\s*", made[first]).group(0)
         clauses = [it.strip()[3:] for it in lines[at:end]]
-        made[top:top] = [f"{margin}///", f"{margin}/// # Contract", f"{margin}///", f"{margin}/// ```text", *[f"{margin}/// {it}" for it in clauses], f"{margin}/// ```"]
+        shown = ["", " # Contract", "", " ```text", *[f" {it}" for it in clauses], " ```"]
+        made[top:top] = [f"{margin}///{it}" for it in shown]
     return "\n".join(made)
 
 
