@@ -1,7 +1,7 @@
 -- What the comments of a script say, those among them that `line_sim` writes: its remarks.
 use Rattle.std.specs.Prelude.{ℕ, ◌==◌, ◌&&◌, Bool, not, nat_eq, List, [], ◌∷◌, ◌++◌, bytes_eq, codes, drop, length, position, take, Option, None, Some}
 use Rattle.std.specs.Prelude.{if◌then◌else◌}
-use Rattle.std.specs.Str.Lossy.{utf8_lossy}
+use Rattle.text_signs.specs.Signs.{shown_text}
 
 pub record Remarked : Type 0 where
   -- the first that a comment gives, no words where none does
@@ -28,9 +28,9 @@ from_place (Some place) line = drop place line
 abbrev pub comment_in : List ℕ → List ℕ
 comment_in line = from_place (position is_said line) line
 
--- what a line says that has no event; octets that are no UTF-8 are U+FFFD
+-- what a line says that has no event; what is no UTF-8, or no character that is shown, is U+FFFD
 abbrev pub words_in : List ℕ → List ℕ
-words_in line = utf8_lossy (comment_in line)
+words_in line = shown_text (comment_in line)
 
 -- ## Titles
 
@@ -54,7 +54,7 @@ unfoldable pub title_in : List ℕ → List ℕ
 title_in line = if bytes_eq (take 3 line) (codes "#@ ") then title_in_remark (drop 3 line) else comment_in line
 
 abbrev pub title_of : List ℕ → List ℕ
-title_of line = utf8_lossy (title_in line)
+title_of line = shown_text (title_in line)
 
 -- # Lines and events
 

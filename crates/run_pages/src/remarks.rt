@@ -4,8 +4,9 @@ ghost use Rattle.run_pages.specs.Remarks as remarks;
 
 use std::alloc::{AllocError, Global};
 use std::marker::Model;
+use text_signs::shown;
 
-/// What the comments before each event say. What is no UTF-8 in them is U+FFFD.
+/// What the comments before each event say. What is no UTF-8 in them, or no character that is shown, is U+FFFD.
 #[derive(Drop)]
 pub struct Remarks {
     title: String,
@@ -106,7 +107,7 @@ impl Remarks {
         ensures { OnOk result (self.new ≡ remarks.with_title line.now self.old) }
     {
         if self.title.is_empty() {
-            self.title = String::from_utf8_lossy(alloc, title_in(line))?;
+            self.title = shown(alloc, title_in(line))?;
         }
         Ok(())
     }
@@ -118,7 +119,7 @@ impl Remarks {
         ensures { OnOk result (self.new ≡ remarks.with_line line.now self.old) }
     {
         self.take_title(alloc, line)?;
-        let words = String::from_utf8_lossy(alloc, comment_in(line))?;
+        let words = shown(alloc, comment_in(line))?;
         if words.is_empty() {
             return Ok(());
         }
