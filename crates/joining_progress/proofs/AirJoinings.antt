@@ -9,7 +9,7 @@ use Rattle.plc_base.specs.declared.address.Eui.{Eui}
 use Rattle.plc_base.specs.Grant.{Granted}
 use Rattle.plc_base.specs.Keeper.{Records}
 use Rattle.store_tables.specs.Writes.{write}
-use Rattle.store_tables.proofs.SlotTables.{slice_get-push, slice_get-set, slice_get-set_other}
+use Rattle.store_tables.proofs.SlotTables.{slice_get-push}
 use Rattle.mac_frames.specs.Grammar.{IsEui}
 use Rattle.group_keys.specs.declared.key_book.BookEntry.{BookEntry}
 use Rattle.group_keys.specs.KeyBook as book
@@ -46,15 +46,14 @@ use Rattle.line_rules.specs.Runs.{run}
 use Rattle.line_rules.specs.Steps as steps
 use Rattle.line_rules.specs.Steps.{done_by, flight_by, has_begun, joins_by, number_of, on_meter, on_node, psk_of, world_after}
 use Rattle.line_rules.specs.Worlds.{Flight, Pairing, World, node_at}
-use Rattle.line_progress.proofs.Deliveries.{delivered, within}
-use Rattle.line_progress.proofs.Routes.{at_place, place_within}
+use Rattle.line_progress.proofs.Deliveries.{within}
 use Rattle.line_progress.proofs.WholePlans.{acts_whole}
 use Rattle.joining_progress.specs.Joinings.{Admitter, IsJoined, IsOutside, JoiningsArrive, LetsIn, MayJoin, Newcomer, agreed_of, air_answers, coordinator_of}
 use Rattle.joining_progress.specs.Joinings.{memory_at}
 use Rattle.joining_progress.specs.Joinings.{meter_of, over_the_air, server_of}
 use Rattle.joining_progress.proofs.CoordinatorSteps.{air_accepts, air_challenges, air_grants, allowed_so, challenged, closed, entry_is, granted, session_gone}
 use Rattle.joining_progress.proofs.CoordinatorSteps.{session_is}
-use Rattle.joining_progress.proofs.Courses.{Course, Next, ends_here, goes_on, number_kept}
+use Rattle.joining_progress.proofs.Courses.{Course, Next, ends_here, goes_on, last_comes, last_flown, new_there, number_kept, same_there}
 use Rattle.joining_progress.proofs.FirstPackets as firsts
 use Rattle.joining_progress.proofs.MeterSteps.{answered, answers_first, asked, asks, joined, notes, takes_grant}
 use Rattle.joining_progress.proofs.NodesHear.{comes_down, comes_up, coordinator_with, meter_with}
@@ -64,7 +63,7 @@ use Rattle.joining_progress.proofs.PlainPlans.{Gives, at, unsealed}
 -- # Between the events
 
 -- a grant that a node took, as the history has it
-abbrev taking_of : ℕ → Option Agreed → Option Pairing
+abbrev pub taking_of : ℕ → Option Agreed → Option Pairing
 taking_of number took = option_map (λ (agreed : Agreed). record { node = number; agreed = agreed }) took
 
 module _ (ciphers : Ciphers) (x : Newcomer) (c : Admitter) (now : ℕ) where
@@ -81,32 +80,6 @@ module _ (ciphers : Ciphers) (x : Newcomer) (c : Admitter) (now : ℕ) where
     flights : length w.flights ≡ place + 1
 
   module _ (other : x.number ≢ 0) (mx mc : Memory) (from : ℕ) (frame : Sent) (count place : ℕ) (w : World) (s : At mx mc from frame count place w) where
-    -- the flight comes to a node
-    comes_so : (number cost : ℕ) (y : Node) → node_at w number ≡ Some y
-        → line_step ciphers w (Deliver (place + 1) number cost) ≡ Ok (comes ciphers w number y (spelled ciphers frame).octets cost)
-    comes_so number cost y there =
-        delivered ciphers w (place + 1) number cost y (flight_by from (spelled ciphers frame)) there (at_place w (place + 1) place refl ∙ s.flown) refl
-
-    -- the flight that a node adds is the last one
-    last_flown : (v : World) (number : ℕ) (sent : Sent)
-        → v.flights ≡ w.flights ++ map (λ (frame : Sent). flight_by number (spelled ciphers frame)) (sent ∷ [])
-        → (slice_get v.flights (place + 1) ≡ Some (flight_by number (spelled ciphers sent))) × (length v.flights ≡ place + 1 + 1)
-    last_flown v number sent flights =
-        let f : Flight = flight_by number (spelled ciphers sent) in (
-          ap (λ fs. slice_get fs (place + 1)) flights ∙ ap (λ k. slice_get (w.flights ++ f ∷ []) k) (sym s.flights) ∙ slice_get-push w.flights f,
-          ap length flights ∙ length-append w.flights (f ∷ []) ∙ ap (λ n. n + 1) s.flights,
-        )
-
-    -- a meter that has done something holds another memory
-    meter_now : (v : World) (records : Records) (left : Memory) → v.nodes ≡ slice_set w.nodes x.number (meter_with x.psk x.eui records left)
-        → (node_at v x.number ≡ Some (meter_with x.psk x.eui records left)) × (node_at v 0 ≡ Some (coordinator_with c.eui s.stored mc))
-    meter_now v records left nodes = (
-      ap (λ ns. slice_get ns x.number) nodes
-          ∙ slice_get-set w.nodes x.number (meter_with x.psk x.eui records left) (place_within w.nodes x.number _ s.meter),
-      ap (λ ns. slice_get ns 0) nodes
-          ∙ slice_get-set_other w.nodes x.number 0 (meter_with x.psk x.eui records left) (λ e. other (sym e)) ∙ s.coordinator,
-    )
-
     module _ (said : JoinBody) (fits : joining.IsBody said) where
       -- a message comes to the meter, which says something
       meter_hears : frame ≡ Down 0 (message x.eui said) → IsEui x.eui → is_own mx.station 0 ≡ false
@@ -130,19 +103,19 @@ module _ (ciphers : Ciphers) (x : Newcomer) (c : Admitter) (now : ℕ) where
       meter_step is name away a sent left took took_is none gives =
           let acts = meter_hears is name away a (sent ∷ []) left gives in
           let r = comes ciphers w x.number (meter_with x.psk x.eui s.meter_stored mx) (spelled ciphers frame).octets x.cost in
-          let there = meter_now r.0 acts.records left acts.nodes in
-          let flown = last_flown r.0 x.number sent acts.flights in
+          let y : Node = meter_with x.psk x.eui acts.records left in
+          let flown = last_flown ciphers w r.0 place x.number sent s.flights acts.flights in
           record {
             r = r;
-            is = comes_so x.number x.cost (meter_with x.psk x.eui s.meter_stored mx) s.meter;
+            is = last_comes ciphers w place from frame s.flown x.number x.cost (meter_with x.psk x.eui s.meter_stored mx) s.meter;
             answer_is = acts.answer_is;
             taken_is = acts.taken_is ∙ took_is;
             done_is = acts.done_is ∙ none;
             so = record {
               meter_stored = acts.records;
               stored = s.stored;
-              meter = there.0;
-              coordinator = there.1;
+              meter = new_there w r.0 x.number y (meter_with x.psk x.eui s.meter_stored mx) acts.nodes s.meter;
+              coordinator = same_there w r.0 x.number 0 y (coordinator_with c.eui s.stored mc) acts.nodes (λ e. other (sym e)) s.coordinator;
               named =
                   number_kept w r.0 x.eui x.number (meter_with x.psk x.eui s.meter_stored mx) (meter_with x.psk x.eui acts.records left) s.meter refl
                   acts.nodes ∙ s.named;
@@ -168,10 +141,10 @@ module _ (ciphers : Ciphers) (x : Newcomer) (c : Admitter) (now : ℕ) where
           subst (λ f. Acts ciphers w 0 y (coordinator_reception (Ok a)) (sent ∷ []) left (comes ciphers w 0 y (spelled ciphers f).octets c.cost)) (sym is)
           (comes_up ciphers w 0 c.cost c.eui x.eui name s.stored mc said fits (sent ∷ []) left 0 (omega arith, λ e. absurd (omega arith)) here apart a
           (at (ap (λ t. hear_join (record { eui = c.eui; ciphers = ciphers }) mc (Air x.eui) x.eui said t) s.clock) gives)) in
-          let flown = last_flown r.0 0 sent acts.flights in
+          let flown = last_flown ciphers w r.0 place 0 sent s.flights acts.flights in
           record {
             r = r;
-            is = comes_so 0 c.cost y s.coordinator;
+            is = last_comes ciphers w place from frame s.flown 0 c.cost y s.coordinator;
             answer_is = acts.answer_is;
             taken_is = acts.taken_is ∙ none;
             done_is = acts.done_is ∙ done s.named;
@@ -179,11 +152,9 @@ module _ (ciphers : Ciphers) (x : Newcomer) (c : Admitter) (now : ℕ) where
               meter_stored = s.meter_stored;
               stored = acts.records;
               meter =
-                  ap (λ ns. slice_get ns x.number) acts.nodes
-                  ∙ slice_get-set_other w.nodes 0 x.number (coordinator_with c.eui acts.records left) other ∙ s.meter;
-              coordinator =
-                  ap (λ ns. slice_get ns 0) acts.nodes
-                  ∙ slice_get-set w.nodes 0 (coordinator_with c.eui acts.records left) (place_within w.nodes 0 _ s.coordinator);
+                  same_there w r.0 0 x.number (coordinator_with c.eui acts.records left) (meter_with x.psk x.eui s.meter_stored mx) acts.nodes other
+                  s.meter;
+              coordinator = new_there w r.0 0 (coordinator_with c.eui acts.records left) y acts.nodes s.coordinator;
               named = number_kept w r.0 x.eui 0 y (coordinator_with c.eui acts.records left) s.coordinator refl acts.nodes ∙ s.named;
               events = acts.events ∙ ap (λ n. n + 1) s.events;
               clock = acts.clock ∙ s.clock;
@@ -196,10 +167,10 @@ module _ (ciphers : Ciphers) (x : Newcomer) (c : Admitter) (now : ℕ) where
 
 module _ (ciphers : Ciphers) (w : World) (x : Newcomer) (agent : ℕ) (y : Node) (address : ℕ) (there : node_at w x.number ≡ Some (meter_of x))
     (other : x.number ≢ 0) (beside : node_at w agent ≡ Some y) (has : node_address y ≡ Some address) where
-  abbrev own : meters.Identity
+  abbrev pub own : meters.Identity
   own = record { eui = x.eui; psk = x.psk; ciphers = ciphers }
 
-  joins_so : line_step ciphers w (Join x.number agent) ≡ Ok (joins_by ciphers w x.number (meter_of x) (Some address) (Some x.psk))
+  pub joins_so : line_step ciphers w (Join x.number agent) ≡ Ok (joins_by ciphers w x.number (meter_of x) (Some address) (Some x.psk))
   unfolding steps.join
   joins_so =
       let begun : has_begun w ≡ true = lt-ltb 0 (length w.nodes) (within w.nodes x.number (meter_of x) there) in
@@ -210,7 +181,7 @@ module _ (ciphers : Ciphers) (w : World) (x : Newcomer) (agent : ℕ) (y : Node)
       ∙ (λ i. option_map_or (λ z. Ok (joins_by ciphers w x.number (meter_of x) (node_address z) (Some x.psk))) (beside i) (Err faults.Node))
       ∙ (λ i. Ok (joins_by ciphers w x.number (meter_of x) (has i) (Some x.psk)))
 
-  joins_acts : (sent : Sent) (left : Memory) → Gives (meters.join own x.memory address w.clock) tt (sent ∷ []) left
+  pub joins_acts : (sent : Sent) (left : Memory) → Gives (meters.join own x.memory address w.clock) tt (sent ∷ []) left
       → Acts ciphers w x.number (meter_of x) (only answers.Asked) (sent ∷ []) left (joins_by ciphers w x.number (meter_of x) (Some address) (Some x.psk))
   unfolding world_after
   joins_acts sent left gives =
@@ -233,18 +204,18 @@ module _ (ciphers : Ciphers) (w : World) (x : Newcomer) (agent : ℕ) (y : Node)
 
 -- # All of it
 
-abbrev is_meter : Role → Bool
+abbrev pub is_meter : Role → Bool
 is_meter Coordinator = false
 is_meter (Meter psk) = true
 
 -- node 0 is no meter
-no_meter : (w : World) (x : Newcomer) (c : Admitter) → node_at w x.number ≡ Some (meter_of x) → node_at w 0 ≡ Some (coordinator_of c) → x.number ≢ 0
+pub no_meter : (w : World) (x : Newcomer) (c : Admitter) → node_at w x.number ≡ Some (meter_of x) → node_at w 0 ≡ Some (coordinator_of c) → x.number ≢ 0
 no_meter w x c meter home e =
     let same : is_meter Coordinator ≡ is_meter (Meter x.psk) =
     ap (λ (o : Option Node). option_map_or (λ (y : Node). is_meter y.role) o false) (sym home ∙ ap (node_at w) (sym e) ∙ meter) in absurd (cc same)
 
 -- no meter is granted the address 0
-no_home : (m : Memory) (eui : Eui) (ring grant : Granted) → m.station.ring ≡ Some ring → grant_for m eui ≡ Some grant → grant.address ≢ 0
+pub no_home : (m : Memory) (eui : Eui) (ring grant : Granted) → m.station.ring ≡ Some ring → grant_for m eui ≡ Some grant → grant.address ≢ 0
 no_home m eui ring grant is grants =
     by_place (book.place_of m.book eui)
     (sym (λ i. option_and_then (λ address. option_map (λ (g : Granted). record g { address = address }) (is i)) (book.address_of m.book eui)) ∙ grants)
@@ -258,9 +229,9 @@ no_home m eui ring grant is grants =
         λ none. absurd (omega (arith, same, none))
 
 -- What both ends hold in the end.
-record IsEnd (x : Newcomer) (mx mc : Memory) (w : World) : Type 0 where
-  holds : memory_at w x.number ≡ Some mx
-  keeps : memory_at w 0 ≡ Some mc
+pub record IsEnd (x : Newcomer) (mx mc : Memory) (w : World) : Type 0 where
+  pub holds : memory_at w x.number ≡ Some mx
+  pub keeps : memory_at w 0 ≡ Some mc
 
 module _ (ciphers : Ciphers) (w : World) (x : Newcomer) (c : Admitter) (may : MayJoin ciphers w x c) where
   abbrev outside : IsOutside w x
@@ -451,18 +422,19 @@ module _ (ciphers : Ciphers) (w : World) (x : Newcomer) (c : Admitter) (may : Ma
       let acts = meter_hears ciphers x c w.clock other mx3 mc3 0 accepting n6 p5 v s (body.Accept 2)
       (omega arith) refl outside.eui elsewhere heard.Noted [] (unsealed mx3) (notes meter mx3 0 w.clock 2) in
       let r = comes ciphers v x.number y (spelled ciphers accepting).octets x.cost in
-      let there = meter_now ciphers x c w.clock other mx3 mc3 0 accepting n6 p5 v s r.0 acts.records
-      (unsealed mx3) acts.nodes in
+      let z : Node = meter_with x.psk x.eui acts.records (unsealed mx3) in
       goes_on End End ciphers v (Deliver p6 x.number x.cost) [] answers.Noted None None [] [] []
       (room 6 n6 v (omega arith) (omega arith) s.events) (record {
         r = r;
-        is = comes_so ciphers x c w.clock other mx3 mc3 0 accepting n6 p5 v s x.number x.cost y s.meter;
+        is = last_comes ciphers v p5 0 accepting s.flown x.number x.cost y s.meter;
         answer_is = acts.answer_is;
         taken_is = acts.taken_is;
         done_is = acts.done_is;
         so = record {
-          holds = ap (λ (o : Option Node). option_and_then (λ (z : Node). z.memory) o) there.0;
-          keeps = ap (λ (o : Option Node). option_and_then (λ (z : Node). z.memory) o) there.1;
+          holds = ap (λ (o : Option Node). option_and_then (λ (z : Node). z.memory) o) (new_there v r.0 x.number z y acts.nodes s.meter);
+          keeps =
+              ap (λ (o : Option Node). option_and_then (λ (z : Node). z.memory) o)
+              (same_there v r.0 x.number 0 z (coordinator_with c.eui s.stored mc3) acts.nodes (λ e. other (sym e)) s.coordinator);
         };
       }) (λ u end. ends_here End u end)
 
@@ -564,12 +536,9 @@ module _ (ciphers : Ciphers) (w : World) (x : Newcomer) (c : Admitter) (may : Ma
         so = record {
           meter_stored = acts.records;
           stored = c.records;
-          meter =
-              ap (λ ns. slice_get ns x.number) acts.nodes
-              ∙ slice_get-set w.nodes x.number (meter_with x.psk x.eui acts.records mx1) (place_within w.nodes x.number _ outside.there);
+          meter = new_there w r.0 x.number (meter_with x.psk x.eui acts.records mx1) (meter_of x) acts.nodes outside.there;
           coordinator =
-              ap (λ ns. slice_get ns 0) acts.nodes
-              ∙ slice_get-set_other w.nodes x.number 0 (meter_with x.psk x.eui acts.records mx1) (λ e. other (sym e)) ∙ lets.there;
+              same_there w r.0 x.number 0 (meter_with x.psk x.eui acts.records mx1) (coordinator_of c) acts.nodes (λ e. other (sym e)) lets.there;
           named =
               number_kept w r.0 x.eui x.number (meter_of x) (meter_with x.psk x.eui acts.records mx1) outside.there refl acts.nodes ∙ outside.named;
           events = acts.events;

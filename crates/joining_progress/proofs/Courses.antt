@@ -1,23 +1,27 @@
 -- Runs that are followed event by event: what is answered, taken and done, and what holds of the last world.
-use Rattle.std.proofs.Common.{◌≡◌, ℕ, zero, suc, ◌+◌, ◌<◌, List, [], ◌∷◌, ◌++◌, length, Option, Some, Ok, refl, sym, ap, subst, ◌∙◌}
+use Rattle.std.proofs.Common.{◌≡◌, ◌≢◌, ℕ, zero, suc, ◌+◌, ◌<◌, List, [], ◌∷◌, ◌++◌, length, map, Option, Some, Ok, refl, sym, ap, subst, ◌∙◌}
 use Rattle.std.specs.Prelude.{cond, not, position, set, slice_get}
 use Rattle.std.specs.List.{prefix_len}
 use Rattle.std.specs.Option.{option_map_or}
-use Rattle.std.proofs.lemmas.List.{length-set}
+use Rattle.std.proofs.lemmas.List.{length-append, length-set}
 use Rattle.std.specs.Prelude.{Bool, nat_lt, None}
 use Rattle.plc_base.specs.declared.address.Eui.{Eui}
 use Rattle.node_rules.specs.Acceptance.{same_eui}
 use Rattle.node_rules.specs.Ciphers.{Ciphers}
+use Rattle.node_rules.specs.Frames.{Sent, spelled}
 use Rattle.node_rules.specs.Memory.{Node}
 use Rattle.line_events.specs.declared.event.Answer.{Answer}
 use Rattle.line_events.specs.declared.event.Event.{Event}
+use Rattle.line_events.specs.declared.event.Event.TheVariants.{Deliver}
 use Rattle.line_events.specs.declared.event.TheConstants.{MAX_EVENTS}
-use Rattle.line_rules.specs.Further.{line_step}
+use Rattle.line_rules.specs.Further.{comes, line_step}
 use Rattle.line_rules.specs.Runs.{Entry, last_world, one_of, run, takings}
-use Rattle.line_rules.specs.Steps.{number_of}
-use Rattle.line_rules.specs.Worlds.{Pairing, Trace, World, node_at}
+use Rattle.line_rules.specs.Steps.{flight_by, number_of}
+use Rattle.line_rules.specs.Worlds.{Flight, Pairing, Trace, World, node_at}
 use Rattle.line_progress.specs.Arrival.{answers_of}
-use Rattle.line_progress.proofs.Routes.{runs_on}
+use Rattle.line_progress.proofs.Routes.{at_place, place_within, runs_on}
+use Rattle.line_progress.proofs.Deliveries.{delivered}
+use Rattle.store_tables.proofs.SlotTables.{slice_get-push, slice_get-set, slice_get-set_other}
 use Rattle.joining_progress.specs.Joinings.{doings}
 
 -- What a run answers, which joinings meters took in it and the coordinator has done, and that its last world is such a one.
@@ -74,3 +78,28 @@ number_kept w v eui number y z there same nodes =
     kept_prefix (λ x. not (test x)) w.nodes number y z there (ap (λ (e : Eui). not (same_eui e eui)) same) in
     ap (λ nodes. option_map_or (λ n. n) (position test nodes) 0) nodes
     ∙ (λ i. option_map_or (λ n. n) (cond (nat_lt (kept i) (length-set w.nodes number z i)) (Some (kept i)) None) 0)
+
+-- # Worlds after an event of one node
+
+pub same_there : (w v : World) (n k : ℕ) (y z : Node) → v.nodes ≡ set w.nodes n y → k ≢ n → node_at w k ≡ Some z → node_at v k ≡ Some z
+same_there w v n k y z nodes other there = ap (λ ns. slice_get ns k) nodes ∙ slice_get-set_other w.nodes n k y other ∙ there
+
+pub new_there : (w v : World) (n : ℕ) (y z : Node) → v.nodes ≡ set w.nodes n y → node_at w n ≡ Some z → node_at v n ≡ Some y
+new_there w v n y z nodes there = ap (λ ns. slice_get ns n) nodes ∙ slice_get-set w.nodes n y (place_within w.nodes n z there)
+
+-- the flight that a node adds is the last one
+pub last_flown : (ciphers : Ciphers) (w v : World) (place number : ℕ) (sent : Sent) → length w.flights ≡ place + 1
+    → v.flights ≡ w.flights ++ map (λ (frame : Sent). flight_by number (spelled ciphers frame)) (sent ∷ [])
+    → (slice_get v.flights (place + 1) ≡ Some (flight_by number (spelled ciphers sent))) × (length v.flights ≡ place + 1 + 1)
+last_flown ciphers w v place number sent long flights =
+    let f : Flight = flight_by number (spelled ciphers sent) in (
+      ap (λ fs. slice_get fs (place + 1)) flights ∙ ap (λ k. slice_get (w.flights ++ f ∷ []) k) (sym long) ∙ slice_get-push w.flights f,
+      ap length flights ∙ length-append w.flights (f ∷ []) ∙ ap (λ n. n + 1) long,
+    )
+
+-- the last flight comes to a node
+pub last_comes : (ciphers : Ciphers) (w : World) (place from : ℕ) (frame : Sent) → slice_get w.flights place ≡ Some (flight_by from (spelled ciphers frame))
+    → (number cost : ℕ) (y : Node) → node_at w number ≡ Some y
+    → line_step ciphers w (Deliver (place + 1) number cost) ≡ Ok (comes ciphers w number y (spelled ciphers frame).octets cost)
+last_comes ciphers w place from frame flown number cost y there =
+    delivered ciphers w (place + 1) number cost y (flight_by from (spelled ciphers frame)) there (at_place w (place + 1) place refl ∙ flown) refl

@@ -8,3 +8,6 @@ mod CoordinatorSteps
 mod NodesHear
 mod Courses
 mod AirJoinings
+mod Commands
+mod AgentSteps
+mod AgentJoinings

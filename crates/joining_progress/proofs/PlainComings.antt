@@ -60,7 +60,7 @@ pub record Acts (ciphers : Ciphers) (w : World) (number : ℕ) (x : Node) (answe
   pub done_is : r.1.done ≡ done_by w answer.done
 
 module _ (ciphers : Ciphers) (w : World) (number : ℕ) (x : Node) (answer : Reception) (frames : List Sent) (left : Memory) where
-  received_acts : (forged : Bool) (d : NodeStep Reception) → HasHeard x answer frames left d
+  pub received_acts : (forged : Bool) (d : NodeStep Reception) → HasHeard x answer frames left d
       → Acts ciphers w number x answer frames left (received ciphers w number forged d)
   unfolding world_after
   received_acts forged d has = record {
@@ -75,7 +75,7 @@ module _ (ciphers : Ciphers) (w : World) (number : ℕ) (x : Node) (answer : Rec
   }
 
   -- checks of neighbours add nothing to it
-  checked_acts : (got : Accepted) (h : NodeStep Reception) (r : World × Trace) → due got.path (message_of got) h.answer.answer ≡ None
+  pub checked_acts : (got : Accepted) (h : NodeStep Reception) (r : World × Trace) → due got.path (message_of got) h.answer.answer ≡ None
       → Acts ciphers w number x answer frames left r → Acts ciphers w number x answer frames left (checked ciphers w number got h r)
   checked_acts got h r none a =
       subst (λ (o : Option Reply). Acts ciphers w number x answer frames left

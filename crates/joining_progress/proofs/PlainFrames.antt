@@ -49,7 +49,7 @@ module _ (m : JoinMessage) (fits : joining.IsMessage m) where
   abbrev pub payload_of : List ℕ
   payload_of = spelling (joining_unit m)
 
-  short : length payload_of ≤ 139
+  pub short : length payload_of ≤ 139
   short =
       let whole = length-append m.eui.0 (joining.rest_of m.body) in
       let eight = fits.0 in

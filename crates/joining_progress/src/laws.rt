@@ -1,4 +1,5 @@
 //! Laws of joinings that come to their end: each carried by a function that does nothing.
+ghost use Rattle.joining_progress.specs.AgentJoinings.{JoiningsArriveByAgent};
 ghost use Rattle.joining_progress.specs.Joinings.{JoiningsArrive};
 ghost use Rattle.joining_progress.specs.Packets.{NetworkPacketsPass};
 
@@ -12,4 +13,10 @@ pub fn network_packets_pass()
 /// it over the air, has joined when six messages have come, each once.
 pub fn joinings_arrive()
     ensures { JoiningsArrive }
+{}
+
+/// So has one that asks a meter which is joined and has the coordinator for a neighbour, where the link between these two holds for three frames each way,
+/// when six messages have come, each once to the agent and once from there.
+pub fn joinings_arrive_by_agent()
+    ensures { JoiningsArriveByAgent }
 {}

@@ -3,4 +3,4 @@
 
 mod laws;
 
-pub use laws::{joinings_arrive, network_packets_pass};
+pub use laws::{joinings_arrive, joinings_arrive_by_agent, network_packets_pass};

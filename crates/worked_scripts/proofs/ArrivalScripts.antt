@@ -35,7 +35,7 @@ opens_sealed key payload =
     ∙ (λ i. if bytes_eq (drop-append_seam payload tag i) tag then Some (take-append_seam payload tag i) else None)
     ∙ (λ i. if (bytes_eq-Decides tag tag).1 refl i then Some payload else None)
 
-plain_opens : OpensWhatItSeals plain
+pub plain_opens : OpensWhatItSeals plain
 plain_opens = record { opens = λ key head payload. opens_sealed key payload; tag = λ key head payload. length_sealed key payload }
 
 -- # A route that may carry a datagram

@@ -2,10 +2,15 @@
 use Rattle.std.specs.Prelude.{◌≡◌, ℕ, ◌-◌, List, [], ◌∷◌, ◌++◌, map, replicate, take, Some, None, unwrap_or}
 use Rattle.std.specs.Option.{option_map}
 use Rattle.byteorder.specs.Endian.{big_bytes}
+use Rattle.plc_base.specs.declared.address.Eui.{Eui}
 use Rattle.plc_base.specs.declared.key.RandomOctets.{RandomOctets as Value}
+use Rattle.plc_base.specs.Grant.{Granted}
+use Rattle.frame_counters.specs.PeerMarks as marks
+use Rattle.frame_counters.specs.SendCounter as counter
 use Rattle.group_keys.specs.KeyBook as book
 use Rattle.eap_psk.specs.declared.fault.EapFault.TheVariants.{BadMac}
 use Rattle.node_rules.specs.Coordinators.{allowed_entry, grant_for}
+use Rattle.node_rules.specs.Drafts.{sealing_key}
 use Rattle.node_rules.specs.declared.heard.Way.TheVariants.{Air}
 use Rattle.node_rules.specs.JoiningPackets.{server_for}
 use Rattle.node_rules.specs.Memory.{CoordinatorSession, Memory, Node, Coordinator, Meter}
@@ -20,6 +25,7 @@ use Rattle.line_rules.specs.Runs.{run, takings}
 use Rattle.line_rules.specs.Steps.{blank_node, psk_of}
 use Rattle.line_rules.specs.Worlds.{Pairing, World, node_at}
 use Rattle.line_progress.specs.Arrival.{answers_of}
+use Rattle.joining_progress.specs.AgentJoinings.{Agent, MayJoinBy, by_agent}
 use Rattle.joining_progress.specs.Joinings.{Admitter, IsJoined, MayJoin, Newcomer, air_answers, doings, over_the_air}
 use Rattle.worked_scripts.specs.ArrivalScripts.{with_node, with_station_at, with_grant_at, with_cut_at}
 use Rattle.worked_scripts.specs.Scripts.{plain, eui, group_key, pair_key, second_key, rand_k, rand_r, world_of}
@@ -51,9 +57,9 @@ newcomer_of w number = by_node (unwrap_or (node_at w number) (blank_node Coordin
     by_node : Node → Newcomer
     by_node x = by_memory x (unwrap_or x.memory (remembering blank_station []))
 
--- what node 0 is as the coordinator that lets meter 1 in, over a link of cost 1
-abbrev pub admitter_of : World → Admitter
-admitter_of w = by_node (unwrap_or (node_at w 0) (blank_node Coordinator (eui 0)))
+-- what node 0 is as the coordinator that lets a meter in, over a link of cost 1
+abbrev pub admitter_of : World → Eui → Admitter
+admitter_of w of = by_node (unwrap_or (node_at w 0) (blank_node Coordinator (eui 0)))
   where
     by_memory : Node → Memory → Admitter
     by_memory x m =
@@ -64,8 +70,8 @@ admitter_of w = by_node (unwrap_or (node_at w 0) (blank_node Coordinator (eui 0)
           memory = m;
           ring = unwrap_or m.station.ring (first_grant group_key);
           value = unwrap_or (oldest m) rand_k;
-          entry = unwrap_or (allowed_entry m (eui 2)) (book.allowed_entry (eui 2) pair_key None);
-          grant = unwrap_or (grant_for m (eui 2)) (first_grant group_key);
+          entry = unwrap_or (allowed_entry m of) (book.allowed_entry of pair_key None);
+          grant = unwrap_or (grant_for m of) (first_grant group_key);
         }
 
     by_node : Node → Admitter
@@ -73,15 +79,15 @@ admitter_of w = by_node (unwrap_or (node_at w 0) (blank_node Coordinator (eui 0)
 
 -- Meter 1 may join.
 unfoldable pub TheMeterMayJoin : Type 0
-TheMeterMayJoin = MayJoin plain allowed (newcomer_of allowed 1) (admitter_of allowed)
+TheMeterMayJoin = MayJoin plain allowed (newcomer_of allowed 1) (admitter_of allowed (eui 2))
 
 -- its events: it asks, and six flights come
 abbrev pub messages : ℕ → List Event
-messages number = over_the_air 1 (newcomer_of allowed number) (admitter_of allowed)
+messages number = over_the_air 1 (newcomer_of allowed number) (admitter_of allowed (eui 2))
 
 -- It joins.
 unfoldable pub TheMeterJoins : Type 0
-TheMeterJoins = IsJoined air_answers (newcomer_of allowed 1) (admitter_of allowed) allowed (run plain allowed (messages 1))
+TheMeterJoins = IsJoined air_answers (newcomer_of allowed 1) (admitter_of allowed (eui 2)) allowed (run plain allowed (messages 1))
 
 -- # What it lacks
 
@@ -111,9 +117,10 @@ TheMeterIsOutside =
     × (joins_with (with_station_at 1 (λ l. record l { ring = Some (first_grant group_key) })) ≡ answers.AlreadyJoined ∷ [])
     × (joins_with (with_randoms_at 1 []) ≡ answers.Asked ∷ answers.Challenged ∷ answers.NoRandom ∷ [])
     × (joins_with (with_node 1 (λ x. record x { eui = record { 0 = big_bytes 7 2 } })) ≡ answers.Asked ∷ answers.BadUnit ∷ [])
-    × (map (λ (p : Pairing). p.node) (takings (run plain (with_twin allowed) (over_the_air 1 (newcomer_of (with_twin allowed) 2) (admitter_of allowed))))
+    × (map (λ (p : Pairing). p.node)
+    (takings (run plain (with_twin allowed) (over_the_air 1 (newcomer_of (with_twin allowed) 2) (admitter_of allowed (eui 2)))))
     ≡ 2 ∷ [])
-    × (map (λ (p : Pairing). p.node) (doings (run plain (with_twin allowed) (over_the_air 1 (newcomer_of (with_twin allowed) 2) (admitter_of allowed))))
+    × (map (λ (p : Pairing). p.node) (doings (run plain (with_twin allowed) (over_the_air 1 (newcomer_of (with_twin allowed) 2) (admitter_of allowed (eui 2)))))
     ≡ 1 ∷ [])
 
 -- a session of another meter
@@ -144,3 +151,80 @@ PacketsHaveToPass =
     ≡ answers.Asked ∷ answers.Challenged ∷ answers.Replied ∷ answers.Keyed ∷ answers.BadMac ∷ [])
     × (joins_with (λ w. record w { events = MAX_EVENTS - 6 })
     ≡ answers.Asked ∷ answers.Challenged ∷ answers.Replied ∷ answers.Keyed ∷ answers.Took ∷ answers.Done ∷ [])
+
+-- # Through an agent
+
+-- meter 1 is joined, beside the coordinator, which allows meter 2
+abbrev pub allowed_beside : World
+allowed_beside =
+    world_of (events.Coordinator (eui 1) group_key ∷ events.Meter (eui 2) pair_key ∷ events.Meter (eui 3) second_key ∷ events.Depot 1
+    ∷ events.Near 0 1 1 ∷ events.Allow 2 ∷ events.RandomOctets 0 rand_k ∷ events.RandomOctets 2 rand_r ∷ [])
+
+-- what a node is as an agent, over links of cost 1
+abbrev pub agent_at : World → ℕ → Agent
+agent_at w number = by_node (unwrap_or (node_at w number) (blank_node Coordinator (eui 0)))
+  where
+    by_ring : Node → Memory → Granted → Agent
+    by_ring x m g =
+        record {
+          number = number;
+          below = 1;
+          above = 1;
+          eui = x.eui;
+          psk = unwrap_or (psk_of x) pair_key;
+          records = x.store.records;
+          memory = m;
+          ring = g;
+          key = unwrap_or (sealing_key g) group_key;
+          home_key = group_key;
+        }
+
+    by_memory : Node → Memory → Agent
+    by_memory x m = by_ring x m (unwrap_or m.station.ring (first_grant group_key))
+
+    by_node : Node → Agent
+    by_node x = by_memory x (unwrap_or x.memory (remembering blank_station []))
+
+-- Meter 2 may join by meter 1.
+unfoldable pub TheMeterMayJoinByAnAgent : Type 0
+TheMeterMayJoinByAnAgent =
+    MayJoinBy plain allowed_beside (newcomer_of allowed_beside 2) (admitter_of allowed_beside (eui 3)) (agent_at allowed_beside 1)
+
+-- its events: it asks, and twelve flights come
+abbrev pub messages_carried : List Event
+messages_carried = by_agent 1 (newcomer_of allowed_beside 2) (admitter_of allowed_beside (eui 3)) (agent_at allowed_beside 1)
+
+-- the answers of another line
+abbrev pub carried_with : (World → World) → List Answer
+carried_with change = answers_of (run plain (change allowed_beside) messages_carried)
+
+-- whose node has this many counters left, and one that admits only counters above 5000 of a sender
+abbrev pub with_counters_at : ℕ → ℕ → World → World
+with_counters_at number left w = with_station_at number (λ l. record l { counter = counter.counting_at (4294967295 - left) }) w
+
+abbrev pub with_mark_at : ℕ → ℕ → World → World
+with_mark_at number from w = with_station_at number (λ l. record l { marks = marks.kept_after l.marks from 5000 }) w
+
+-- A meter does not join by an agent that is halted, loses power or is not joined, has the meter's EUI, has another key than the coordinator, two counters
+-- only, or is admitted no more; nor where the coordinator has two counters only or is admitted no more, the ciphers do not open what they seal, or the
+-- run may not have the events.
+unfoldable pub TheAgentCarries : Type 0
+TheAgentCarries =
+    (carried_with (with_node 1 (λ x. record x { memory = None })) ≡ answers.NoAddress ∷ [])
+    × (carried_with (with_cut_at 1) ≡ answers.Asked ∷ answers.Store ∷ [])
+    × (carried_with (with_station_at 1 (λ l. record l { ring = None })) ≡ answers.NoAddress ∷ [])
+    × (carried_with (with_node 1 (λ x. record x { eui = eui 3 })) ≡ answers.Asked ∷ answers.NotForMe ∷ [])
+    × (carried_with (with_grant_at 1 (λ g. record g { key0 = Some second_key })) ≡ answers.Asked ∷ answers.Carried ∷ answers.BadTag ∷ [])
+    × (carried_with (with_counters_at 1 2)
+    ≡ answers.Asked ∷ answers.Carried ∷ answers.Challenged ∷ answers.Carried ∷ answers.Replied ∷ answers.Carried ∷ answers.Keyed ∷ answers.Carried
+    ∷ answers.Took ∷ answers.CounterSpent ∷ [])
+    × (carried_with (with_mark_at 0 1) ≡ answers.Asked ∷ answers.Carried ∷ answers.Replayed ∷ [])
+    × (carried_with (with_counters_at 0 2)
+    ≡ answers.Asked ∷ answers.Carried ∷ answers.Challenged ∷ answers.Carried ∷ answers.Replied ∷ answers.Carried ∷ answers.Keyed ∷ answers.Carried
+    ∷ answers.Took ∷ answers.Carried ∷ answers.CounterSpent ∷ [])
+    × (carried_with (with_mark_at 1 0) ≡ answers.Asked ∷ answers.Carried ∷ answers.Challenged ∷ answers.Replayed ∷ [])
+    × (answers_of (run (record plain { opens = λ key head front body. None }) allowed_beside messages_carried)
+    ≡ answers.Asked ∷ answers.Carried ∷ answers.BadTag ∷ [])
+    × (carried_with (λ w. record w { events = MAX_EVENTS - 12 })
+    ≡ answers.Asked ∷ answers.Carried ∷ answers.Challenged ∷ answers.Carried ∷ answers.Replied ∷ answers.Carried ∷ answers.Keyed ∷ answers.Carried
+    ∷ answers.Took ∷ answers.Carried ∷ answers.Done ∷ answers.Carried ∷ [])

@@ -1,5 +1,6 @@
 //! A meter joins over the air where it may; where one thing alone is lacking, it does not.
 ghost use Rattle.worked_scripts.specs.AdmissionScripts.{TheMeterMayJoin, TheMeterJoins, TheMeterIsOutside, TheCoordinatorLetsItIn, PacketsHaveToPass};
+ghost use Rattle.worked_scripts.specs.AdmissionScripts.{TheMeterMayJoinByAnAgent, TheAgentCarries};
 
 /// A meter that the coordinator allows may join over the air.
 #[tactic(auto, using(crate::proofs::AdmissionScripts::the_meter_may_join))]
@@ -31,4 +32,18 @@ pub fn the_coordinator_lets_it_in()
 #[tactic(auto, using(crate::proofs::AdmissionScripts::packets_have_to_pass))]
 pub fn packets_have_to_pass()
     ensures { PacketsHaveToPass }
+{}
+
+/// A meter may join by another one, which is joined beside the coordinator.
+#[tactic(auto, using(crate::proofs::AdmissionScripts::the_meter_may_join_by_an_agent))]
+pub fn the_meter_may_join_by_an_agent()
+    ensures { TheMeterMayJoinByAnAgent }
+{}
+
+/// A meter does not join by an agent that is halted, loses power or is not joined, has the meter's EUI, has another key than the coordinator, two counters
+/// only, or is admitted no more; nor where the coordinator has two counters only or is admitted no more, the ciphers do not open what they seal, or the
+/// run may not have the events.
+#[tactic(auto, using(crate::proofs::AdmissionScripts::the_agent_carries))]
+pub fn the_agent_carries()
+    ensures { TheAgentCarries }
 {}

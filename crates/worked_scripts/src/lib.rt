@@ -20,10 +20,12 @@ mod waiting_scripts;
 mod way_scripts;
 
 pub use admission_scripts::packets_have_to_pass;
+pub use admission_scripts::the_agent_carries;
 pub use admission_scripts::the_coordinator_lets_it_in;
 pub use admission_scripts::the_meter_is_outside;
 pub use admission_scripts::the_meter_joins;
 pub use admission_scripts::the_meter_may_join;
+pub use admission_scripts::the_meter_may_join_by_an_agent;
 pub use arrival_scripts::a_datagram_arrives;
 pub use arrival_scripts::a_datagram_arrives_link_by_link;
 pub use arrival_scripts::a_datagram_in_pieces_arrives;
