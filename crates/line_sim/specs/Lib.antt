@@ -5,4 +5,5 @@ pub mod WorldRecorder
 pub mod Scripts
 pub mod Times
 pub mod Simulated
+pub mod Links
 pub mod Tool

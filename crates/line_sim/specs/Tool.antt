@@ -10,7 +10,8 @@ use Rattle.line_plan.specs.OptionDescriptions.{IsDescribed, IsBad}
 use Rattle.line_rules.specs.Worlds.{World}
 use Rattle.line_simulation.specs.Attackers.{has_attackers}
 use Rattle.line_simulation.specs.Simulations.{Simulated}
-use Rattle.line_simulation.specs.Start.{IsFirst, IsApart}
+use Rattle.line_place.specs.declared.link.Link.{Link}
+use Rattle.line_simulation.specs.Start.{nodes_of, IsPlaceOf, IsFirst, IsApart}
 use Rattle.line_simulation.specs.Turns.{Ran, whole_run}
 use Rattle.line_sim.specs.Arrivals.{IsCausal, InOrder, arrivals}
 use Rattle.line_sim.specs.Recorders.{Recorded}
@@ -21,6 +22,9 @@ use Rattle.line_sim.specs.Times.{IsUpTo, times}
 use Rattle.line_sim.specs.declared.command.Command.{Command}
 use Rattle.line_sim.specs.declared.command.Mode.{Mode}
 use Rattle.line_sim.specs.declared.command.Mode.TheVariants as modes
+use Rattle.line_sim.specs.declared.command.Wanted.{Wanted}
+use Rattle.line_sim.specs.declared.command.Wanted.TheVariants.{OfRun, Links}
+use Rattle.line_sim.specs.Links.{links_text}
 use Rattle.script_runs.specs.declared.status.Status.{Status}
 use Rattle.script_runs.specs.declared.status.Status.TheVariants as status
 use Rattle.script_runs.specs.Texts.{WritesText}
@@ -45,26 +49,29 @@ status_of whole forged = if nat_lt 0 forged then status.Forged else (if whole th
 -- # The words
 
 -- what is written, by the first word
-abbrev pub mode_named : List ℕ → Option Mode
-mode_named word =
-    if bytes_eq word (codes "run") then Some modes.Run else (if bytes_eq word (codes "measure") then Some modes.Measure else None)
+abbrev pub wanted_named : List ℕ → Option Wanted
+wanted_named word =
+    if bytes_eq word (codes "run") then Some (OfRun modes.Run)
+    else if bytes_eq word (codes "measure") then Some (OfRun modes.Measure)
+    else if bytes_eq word (codes "links") then Some Links
+    else None
 
 -- What words ask for.
 pub record Asked : Type 0 where
-  pub mode : Mode
+  pub wanted : Wanted
   pub options : List (String Global)
 
--- what words ask for: `run` or `measure`, and then options; None where they are of another form
+-- what words ask for: `run`, `measure` or `links`, and then options; None where they are of another form
 abbrev pub asked_by : List (String Global) → Option Asked
 asked_by [] = None
 asked_by (word ∷ words) =
-    option_and_then (λ mode. if are_options words then Some (record { mode = mode; options = words }) else None) (mode_named (string_bytes word))
+    option_and_then (λ wanted. if are_options words then Some (record { wanted = wanted; options = words }) else None) (wanted_named (string_bytes word))
 
 abbrev pub asked_of : Command → Asked
-asked_of command = record { mode = command.mode; options = command.options.now }
+asked_of command = record { wanted = command.wanted; options = command.options.now }
 
 abbrev pub usage_text : List ℕ
-usage_text = codes "usage: line_sim run | measure [--seed N] [--set KEY=VALUE]..\n"
+usage_text = codes "usage: line_sim run | measure | links [--seed N] [--set KEY=VALUE]..\n"
 
 abbrev pub apart_text : List ℕ
 apart_text = codes "bad description: in 1000 draws of the place no path led to every meter; raise reach\n"
@@ -109,25 +116,37 @@ pub data Ends (mode : Mode) (injects : Bool) (plan : Plan) (sink0 sink1 : SinkSt
 abbrev pub EndsPlan : Mode → Plan → SinkState → SinkState → Status → Type 0
 EndsPlan mode plan sink0 sink1 result = Ends mode (has_attackers plan.incidents) plan sink0 sink1 result
 
--- What became of a call that asks for a script or counts, with these options.
-pub data Runs (mode : Mode) (options : List (String Global)) (source0 source1 : SourceState) (sink0 sink1 : SinkState) (result : Status) : Type 0 where
-  -- the text that the source gave is a description, and with the options it gives the plan that was run
-  Described : (plan : Plan) → IsDescribed source0 source1 options plan → EndsPlan mode plan sink0 sink1 result
-      → Runs mode options source0 source1 sink0 sink1 result
+-- What became of a plan whose links were asked for: those of the place of its run were written, or the line that says why it has none; or nothing was.
+pub data ShowsLinks (plan : Plan) (sink0 sink1 : SinkState) (result : Status) : Type 0 where
+  Shows : (rows : List (List Link)) → IsPlaceOf plan.seed plan.place plan.place.kind rows
+      → WritesText (links_text rows (nodes_of plan.place)) status.Fine sink0 sink1 result → ShowsLinks plan sink0 sink1 result
+  NoPlace : IsApart plan.seed plan.place plan.place.kind → WritesText apart_text status.BadScript sink0 sink1 result → ShowsLinks plan sink0 sink1 result
+  NoRoom : result ≡ status.Memory → sink1 ≡ sink0 → ShowsLinks plan sink0 sink1 result
+
+-- What became of a plan, by what was asked for.
+abbrev pub EndsWanted : Wanted → Plan → SinkState → SinkState → Status → Type 0
+EndsWanted (OfRun mode) plan sink0 sink1 result = EndsPlan mode plan sink0 sink1 result
+EndsWanted Links plan sink0 sink1 result = ShowsLinks plan sink0 sink1 result
+
+-- What became of a call that asks for a script, counts or links, with these options.
+pub data Runs (wanted : Wanted) (options : List (String Global)) (source0 source1 : SourceState) (sink0 sink1 : SinkState) (result : Status) : Type 0 where
+  -- the text that the source gave is a description, and with the options it gives the plan of the line
+  Described : (plan : Plan) → IsDescribed source0 source1 options plan → EndsWanted wanted plan sink0 sink1 result
+      → Runs wanted options source0 source1 sink0 sink1 result
   -- the description or an option is bad, and the line that says what is wrong was written, with the status of a bad description
   Bad : (line : List ℕ) → IsBad source0 source1 options line → WritesText line status.BadScript sink0 sink1 result
-      → Runs mode options source0 source1 sink0 sink1 result
+      → Runs wanted options source0 source1 sink0 sink1 result
   -- the source failed, and nothing was written
-  NotRead : result ≡ status.ReadFault → SourceRose source0 source1 → sink1 ≡ sink0 → Runs mode options source0 source1 sink0 sink1 result
+  NotRead : result ≡ status.ReadFault → SourceRose source0 source1 → sink1 ≡ sink0 → Runs wanted options source0 source1 sink0 sink1 result
   -- there was not enough memory, and nothing was written
-  NoMemory : result ≡ status.Memory → sink1 ≡ sink0 → Runs mode options source0 source1 sink0 sink1 result
+  NoMemory : result ≡ status.Memory → sink1 ≡ sink0 → Runs wanted options source0 source1 sink0 sink1 result
 
 -- The usage line was written, and nothing was read.
 pub record WritesUsage (source0 source1 : SourceState) (sink0 sink1 : SinkState) (result : Status) : Type 0 where
   pub written : WritesText usage_text status.Usage sink0 sink1 result
   pub unread : source1 ≡ source0
 
--- What became of a call, by what its words ask for: a script or counts, or the usage line where they ask for nothing.
+-- What became of a call, by what its words ask for: a script, counts or links, or the usage line where they ask for nothing.
 abbrev pub Answers : Option Asked → SourceState → SourceState → SinkState → SinkState → Status → Type 0
 Answers None source0 source1 sink0 sink1 result = WritesUsage source0 source1 sink0 sink1 result
-Answers (Some asked) source0 source1 sink0 sink1 result = Runs asked.mode asked.options source0 source1 sink0 sink1 result
+Answers (Some asked) source0 source1 sink0 sink1 result = Runs asked.wanted asked.options source0 source1 sink0 sink1 result

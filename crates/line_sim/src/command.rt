@@ -1,6 +1,6 @@
 //! What the words after the program's name ask for.
 ghost use Rattle.std.specs.Prelude.{◌≡◌, option_map};
-ghost use Rattle.line_sim.specs.Tool.{mode_named, asked_by, asked_of};
+ghost use Rattle.line_sim.specs.Tool.{wanted_named, asked_by, asked_of};
 
 use line_plan::are_options;
 
@@ -13,19 +13,29 @@ pub enum Mode {
     Measure,
 }
 
+/// What is written of a line.
+#[derive(Clone, Copy, Debug, PartialEq, Eq)]
+pub enum Wanted {
+    /// What its run leaves.
+    OfRun(Mode),
+    /// The links of its place, as CSV.
+    Links,
+}
+
 /// What the words ask for: what is written, and the options that change the description.
 #[derive(Clone, Copy, Debug)]
 pub struct Command<'a> {
-    pub mode: Mode,
+    pub wanted: Wanted,
     pub options: &'a [String],
 }
 
-fn mode_named(word: &str) -> Option<Mode>
-    ensures { result ≡ mode_named word.now }
+fn wanted_named(word: &str) -> Option<Wanted>
+    ensures { result ≡ wanted_named word.now }
 {
     match word {
-        "run" => Some(Mode::Run),
-        "measure" => Some(Mode::Measure),
+        "run" => Some(Wanted::OfRun(Mode::Run)),
+        "measure" => Some(Wanted::OfRun(Mode::Measure)),
+        "links" => Some(Wanted::Links),
         _ => None,
     }
 }
@@ -37,11 +47,11 @@ pub fn command_of(words: &[String]) -> Option<Command<'_>>
     match words {
         [] => None,
         [word, options @ ..] => {
-            let mode = mode_named(word.as_str())?;
+            let wanted = wanted_named(word.as_str())?;
             if !are_options(options) {
                 return None;
             }
-            Some(Command { mode, options })
+            Some(Command { wanted, options })
         }
     }
 }

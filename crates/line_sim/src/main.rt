@@ -1,10 +1,12 @@
 //! Makes the script of a run of a simulated line from a description of the line.
 //!
 //! `line_sim run` reads a description (docs/LINE-DESCRIPTION.md), runs the nodes of `line_world` under an air and an owner that are modelled, and writes the
-//! script of the run that it made, which `line_replay` repeats. `line_sim measure` writes the counts of the run instead, as one line of JSON.
+//! script of the run that it made, which `line_replay` repeats. `line_sim measure` writes the counts of the run instead, as one line of JSON, `line_sim links`
+//! the links of the line's place as CSV.
 #![tactic(auto)]
 
 mod command;
+mod links;
 mod order;
 mod recorder;
 mod tool;

@@ -4,17 +4,18 @@ ghost use Rattle.line_simulation.specs.Simulations.{state_of};
 ghost use Rattle.line_simulation.specs.Turns.{Ran, whole_run};
 ghost use Rattle.line_sim.specs.Recorders.{Recorded};
 ghost use Rattle.line_sim.specs.WorldRecorder.{world_recorder};
-ghost use Rattle.line_sim.specs.Tool.{status_of, EndsRun, Ends, EndsPlan, Runs, Answers, asked_by};
+ghost use Rattle.line_sim.specs.Tool.{status_of, EndsRun, Ends, EndsPlan, ShowsLinks, EndsWanted, Runs, Answers, asked_by};
 
-use crate::command::{Mode, command_of};
+use crate::command::{Mode, Wanted, command_of};
+use crate::links::links_text;
 use crate::recorder::Recorder;
 use line_plan::{NoPlan, Plan, read_plan};
-use line_simulation::{Made, Simulation, has_attackers};
+use line_simulation::{Made, Simulation, has_attackers, place_of};
 use plc_base::{Sink, Source};
 use script_runs::{Status, write_whole};
 use std::alloc::{AllocError, Global};
 
-const USAGE: &[u8; 61] = b"usage: line_sim run | measure [--seed N] [--set KEY=VALUE]..\n";
+const USAGE: &[u8; 69] = b"usage: line_sim run | measure | links [--seed N] [--set KEY=VALUE]..\n";
 
 const APART: &[u8; 84] =
     b"bad description: in 1000 draws of the place no path led to every meter; raise reach\n";
@@ -99,18 +100,43 @@ pub fn run_plan<K: Sink>(alloc: Global, mode: Mode, plan: Plan, sink: &mut K) ->
     run_over::<0, K>(alloc, mode, plan, sink)
 }
 
-// Reads a description with options, runs its line, and writes what is asked for.
+// Writes the links of the place of a plan.
+fn write_links<K: Sink>(alloc: Global, plan: &Plan, sink: &mut K) -> Status
+    ensures { ShowsLinks plan.now (K.state sink.old) (K.state sink.new) result }
+{
+    let place = match place_of(alloc, plan.seed, &plan.place) {
+        Ok(Some(place)) => place,
+        Ok(None) => return write_whole(sink, APART, Status::BadScript),
+        Err(AllocError) => return Status::Memory,
+    };
+    match links_text(alloc, &place, plan.place.meters().saturating_add(1)) {
+        Ok(text) => write_whole(sink, text.as_bytes(), Status::Fine),
+        Err(AllocError) => Status::Memory,
+    }
+}
+
+// Writes what is asked for of the line of a plan.
+fn write_wanted<K: Sink>(alloc: Global, wanted: Wanted, plan: Plan, sink: &mut K) -> Status
+    ensures { EndsWanted wanted plan (K.state sink.old) (K.state sink.new) result }
+{
+    match wanted {
+        Wanted::OfRun(mode) => run_plan(alloc, mode, plan, sink),
+        Wanted::Links => write_links(alloc, &plan, sink),
+    }
+}
+
+// Reads a description with options, and writes what is asked for of its line.
 fn simulate<S: Source, K: Sink>(
     alloc: Global,
-    mode: Mode,
+    wanted: Wanted,
     options: &[String],
     source: &mut S,
     sink: &mut K,
 ) -> Status
-    ensures { Runs mode options.now (S.state source.old) (S.state source.new) (K.state sink.old) (K.state sink.new) result }
+    ensures { Runs wanted options.now (S.state source.old) (S.state source.new) (K.state sink.old) (K.state sink.new) result }
 {
     match read_plan(alloc, source, options) {
-        Ok(plan) => run_plan(alloc, mode, plan, sink),
+        Ok(plan) => write_wanted(alloc, wanted, plan, sink),
         Err(NoPlan::Bad(text)) => write_whole(sink, text.as_bytes(), Status::BadScript),
         Err(NoPlan::Read) => Status::ReadFault,
         Err(NoPlan::Memory) => Status::Memory,
@@ -119,8 +145,8 @@ fn simulate<S: Source, K: Sink>(
 
 /// All that the program does, with the words after its name.
 ///
-/// `run` reads a description, runs its line, and writes the script of the run. `measure` writes the counts of the run instead. Other words write the usage
-/// line, and read nothing.
+/// `run` reads a description, runs its line, and writes the script of the run. `measure` writes the counts of the run instead, and `links` those who hear
+/// each other on the line. Other words write the usage line, and read nothing.
 pub fn run_tool<S: Source, K: Sink>(
     alloc: Global,
     words: &[String],
@@ -128,11 +154,11 @@ pub fn run_tool<S: Source, K: Sink>(
     sink: &mut K,
 ) -> Status
     // For `run` and options the script was written of the run of the plan that the description gives with the options, for `measure` and options counts of that
-    // run; or a line that says why there is none. For other words, the usage line.
+    // run, for `links` and options the links of its place; or a line that says why there is none. For other words, the usage line.
     ensures runs { Answers (asked_by words.now) (S.state source.old) (S.state source.new) (K.state sink.old) (K.state sink.new) result }
 {
     match command_of(words) {
-        Some(command) => simulate(alloc, command.mode, command.options, source, sink),
+        Some(command) => simulate(alloc, command.wanted, command.options, source, sink),
         None => write_whole(sink, USAGE, Status::Usage),
     }
 }
