@@ -4,7 +4,7 @@ use Rattle.std.specs.FinMap.{get}
 use Rattle.plc_base.specs.Keeper.{Records}
 use Rattle.store_tables.specs.Marks.{mark_in-rests}
 use Rattle.store_tables.specs.Numberings.{counting_at, counting_from}
-use Rattle.store_tables.proofs.OpenedTables.{opened_kept, opened_reads, reopened, stored_gapless}
+use Rattle.store_tables.proofs.OpenedTables.{opened_kept, opened_reads, reopened}
 use Rattle.broadcast_log.specs.NextNumber.{LimitAgrees, Numbering, limit_at, limit_in, limit_slot}
 use Rattle.broadcast_log.specs.OriginMarks.{marks}
 use Rattle.broadcast_log.specs.Log.{Log, log_at_rest, opened}
@@ -24,8 +24,7 @@ opened_in was log records h e =
     record {
       kept = record {
         numbering = subst (λ (c : Numbering). LimitAgrees c records) n (record { limit = limit; below = omega arith });
-        marks = opened_kept marks records (Ok log.marks) (λ _ octets entry r. mark_in-rests 0x0300 32 octets entry r) (sym o.marks)
-            (stored_gapless marks was.marks records h.kept.marks);
+        marks = opened_kept marks records (Ok log.marks) (λ _ octets entry r. mark_in-rests 0x0300 32 octets entry r) (sym o.marks);
       };
       fits = subst (λ (c : Numbering). c.limit < 4294967296) n h.fits;
       sound = (opened_reads marks records (Ok log.marks) (sym o.marks)).sound;

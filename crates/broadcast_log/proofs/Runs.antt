@@ -71,11 +71,11 @@ limit_stays : (old new : Records) → SameOutside 0x0300 0x031F old new → get 
 limit_stays old new same = same limit_slot (inl (omega arith))
 
 holds : (given : List ℕ) (before : List Admitted) (was : Option Log) (records : Records) → Runs given before was records → Holds given before was records
-holds given before was records (begins log r e fits gapless) =
+holds given before was records (begins log r e fits) =
     let o = both_opened log r e in
     record {
       numbering = given_begins limit_at BROADCASTS_AHEAD log.numbering r o.numbering (record { fits = fits; low = omega arith });
-      marks = admitted_begins 0x0300 32 log.marks r o.marks gapless;
+      marks = admitted_begins 0x0300 32 log.marks r o.marks;
     }
 holds given before was records (numbers g b log old new earlier left stores) =
     let h = holds g b (Some log) old.records earlier in

@@ -2,7 +2,7 @@
 use Rattle.std.specs.Prelude.{◌≡◌, ℕ, ◌^◌, ◌<◌, true, false, List, [], ◌∷◌, Option, Some, None, Ok}
 use Rattle.std.specs.FinMap.{get}
 use Rattle.plc_base.specs.Keeper.{Records, Store, Stores}
-use Rattle.store_tables.specs.SlotTables.{IsGapless, slot_of}
+use Rattle.store_tables.specs.SlotTables.{slot_of}
 use Rattle.store_tables.specs.AdmittedNumbers.{Admitted}
 use Rattle.broadcast_log.specs.NextNumber.{limit_slot, is_spent, number_put}
 use Rattle.broadcast_log.specs.OriginMarks.{marks, room_for, keep_write}
@@ -17,7 +17,7 @@ pub record LogSlotsStay (old new : Records) : Type 0 where
 -- and it was not opened again; and the records.
 pub data Runs : List ℕ → List Admitted → Option Log → Records → Type 0 where
   begins : (log : Log) (records : Records) → opened records ≡ Ok log → log.numbering.limit < 2 ^ 32
-      → IsGapless marks records → Runs [] [] (Some log) records
+      → Runs [] [] (Some log) records
   numbers : (given : List ℕ) (before : List Admitted) (log : Log) (old new : Store)
       → Runs given before (Some log) old.records
       → is_spent log.numbering ≡ false → Stores old (number_put log.numbering) true new

@@ -2,7 +2,7 @@
 ghost use Rattle.std.specs.Prelude.{◌≡◌, ◌+◌, Ok, Some, List, ℕ, IfOk, IfErr, OnOk, OnErr};
 ghost use Rattle.std.specs.Bool.{OnTrue};
 ghost use Rattle.plc_base.specs.Keeper.{Stores, OutsideStays, IsOldOrNew};
-ghost use Rattle.store_tables.specs.SlotTables.{IsTable, IsGapless, read_into};
+ghost use Rattle.store_tables.specs.SlotTables.{IsTable, read_into};
 ghost use Rattle.store_tables.specs.OpenFaults.{IsOpened, IsFault};
 ghost use Rattle.store_tables.specs.Numberings.{AllBelow};
 ghost use Rattle.store_tables.specs.AdmittedNumbers.{Admitted, AllEarlier};
@@ -71,13 +71,12 @@ impl BroadcastLog {
     /// are those from slot 0300 on, up to the first empty slot, each mark the stored one.
     ///
     /// Memory where there is none for 32 origins. BadStore exactly where the record at slot 6 has another length than 4 octets, or, after
-    /// that, where one of the marks has not 6 octets, has an address above FFFD, or is a second one of an address. After either no memory
-    /// is held.
+    /// that, where one of the marks has not 6 octets, has an address above FFFD, or is a second one of an address, or stands behind the
+    /// first empty slot. After either no memory is held.
     pub fn open<K: Keeper>(alloc: Global, keeper: &K) -> Result<BroadcastLog, OpenFault>
         ensures log { IsOpened result (opened (K.store keeper.now).records) }
         ensures bad { IfErr result (IsFault (IsBad (K.store keeper.now).records)) }
-        ensures kept { IsGapless marks (K.store keeper.now).records
-            → IfOk result (λ log. AgreesWith log (K.store keeper.now).records) }
+        ensures kept { IfOk result (λ log. AgreesWith log (K.store keeper.now).records) }
         // A log that was kept is opened again, at its limit and with each mark the stored one.
         ensures reopened { Reopens (K.store keeper.now).records result }
     {
@@ -91,8 +90,7 @@ impl BroadcastLog {
         ensures log { read_into result self.new ≡ opened (K.store keeper.now).records }
         ensures bad { IfErr result (λ bad. IsBad (K.store keeper.now).records bad.slot) }
         ensures none { OnErr result (self.new ≡ empty_log) }
-        ensures kept { IsGapless marks (K.store keeper.now).records
-            → OnOk result (AgreesWith self.new (K.store keeper.now).records) }
+        ensures kept { OnOk result (AgreesWith self.new (K.store keeper.now).records) }
     {
         self.clear();
         let numbering = Numbering::open(keeper)?;

@@ -1,10 +1,10 @@
 -- What a store gives again after a put of the ring.
-use Rattle.std.proofs.Common.{◌≡◌, ℕ, zero, suc, ◌+◌, ◌<◌, ◌≤◌, List, [], Option, Some, None, Result, Ok, Err, inr, refl, sym, ap, ◌∙◌, subst, arith}
+use Rattle.std.proofs.Common.{◌≡◌, ℕ, ◌<◌, ◌≤◌, [], Option, Some, None, Result, Ok, Err, inr, refl, sym, ap, ◌∙◌, subst, arith}
 use Rattle.std.specs.FinMap.{get}
 use Rattle.plc_base.specs.Keeper.{Records, SameOutside}
 use Rattle.plc_base.specs.declared.keeper.BadStore.{BadStore}
 use Rattle.store_tables.specs.SlotTables as slots
-use Rattle.store_tables.proofs.OpenedTables.{opened_from-empty, opened_from-damaged, opened_from-more, opened_from-none_left}
+use Rattle.store_tables.proofs.OpenedTables.{opened_from-same}
 use Rattle.frame_counters.specs.SendCounter as counter
 use Rattle.frame_counters.specs.PeerMarks as marks
 use Rattle.group_keys.specs.KeyRing as ring
@@ -92,31 +92,8 @@ read_below records l read =
 -- # Another ring
 
 module _ (old new : Records) (same : SameOutside 1 1 old new) where
-  from_same : {A : Type 0} (layout : slots.Layout A) → 1 < layout.first → (left place : ℕ) (table : List A)
-      → slots.opened_from layout left place new table ≡ slots.opened_from layout left place old table
-  from_same layout high zero place table = opened_from-none_left layout place new table ∙ sym (opened_from-none_left layout place old table)
-  from_same {A} layout high (suc left) place table =
-      by_record (λ next. from_same layout high left (place + 1) next) (get old (slots.slot_of layout place)) refl
-    where
-      here : get new (slots.slot_of layout place) ≡ get old (slots.slot_of layout place)
-      here = same (slots.slot_of layout place) (inr (omega arith))
-
-      by_next : ((next : List A) → slots.opened_from layout left (place + 1) new next ≡ slots.opened_from layout left (place + 1) old next)
-          → (octets : List ℕ) → get old (slots.slot_of layout place) ≡ Some octets → (next : Option (List A))
-          → slots.with_record layout place table octets ≡ next
-          → slots.opened_from layout (suc left) place new table ≡ slots.opened_from layout (suc left) place old table
-      by_next later octets o None w =
-          opened_from-damaged layout (suc left) place new table octets (omega arith) (here ∙ o) w
-          ∙ sym (opened_from-damaged layout (suc left) place old table octets (omega arith) o w)
-      by_next later octets o (Some next) w =
-          opened_from-more layout (suc left) left place new table next octets (omega arith) (here ∙ o) w ∙ later next
-          ∙ sym (opened_from-more layout (suc left) left place old table next octets (omega arith) o w)
-
-      by_record : ((next : List A) → slots.opened_from layout left (place + 1) new next ≡ slots.opened_from layout left (place + 1) old next)
-          → (o : Option (List ℕ)) → get old (slots.slot_of layout place) ≡ o
-          → slots.opened_from layout (suc left) place new table ≡ slots.opened_from layout (suc left) place old table
-      by_record later None o = opened_from-empty layout (suc left) place new table (here ∙ o) ∙ sym (opened_from-empty layout (suc left) place old table o)
-      by_record later (Some octets) o = by_next later octets o (slots.with_record layout place table octets) refl
+  from_same : {A : Type 0} (layout : slots.Layout A) → 1 < layout.first → slots.opened layout new ≡ slots.opened layout old
+  from_same layout high = opened_from-same layout layout.slots 0 old new [] (λ q. same (slots.slot_of layout q) (inr (omega arith)))
 
   -- the station is read as before, but for its ring
   pub read_again : (l : StationMemory) (k : ring.Ring) → station_of old ≡ Ok l → ring.AgreesWith k new → station_of new ≡ Ok (record l { ring = k })
@@ -125,8 +102,8 @@ module _ (old new : Records) (same : SameOutside 1 1 old new) where
       station_parts new
       ∙ (λ i. parts (ring.ring_from (kept.stored i)) (counter.counting_from (counter.limit_in (same 2 (inr (omega arith)) i)))
       (own_number.numbering_from (own_number.limit_in (same 3 (inr (omega arith)) i))) (tag_in (same 4 (inr (omega arith)) i))
-      (routing.routing_of (routing.floors_in (same 5 (inr (omega arith)) i)) (from_same routing.ranks (omega arith) routing.ranks.slots 0 [] i))
-      (from_same marks.peers (omega arith) marks.peers.slots 0 [] i))
+      (routing.routing_of (routing.floors_in (same 5 (inr (omega arith)) i)) (from_same routing.ranks (omega arith) i))
+      (from_same marks.peers (omega arith) i))
       ∙ ringed l.ring k (counter.opened old) (own_number.opened old) (tag_in (get old 4)) (routing.opened old) (slots.opened marks.peers old)
       ∙ ap (λ o. with_ring_in k (parts o (counter.opened old) (own_number.opened old) (tag_in (get old 4)) (routing.opened old) (slots.opened marks.peers old)))
       (sym (read_ring old l read))

@@ -1,9 +1,6 @@
 //! The coordinator.
 ghost use Rattle.std.specs.Prelude.{◌≡◌, ◌≤◌, length, None, Ok, Err, IfSome, IfNone, is_some};
 ghost use Rattle.std.specs.Option.{option_map, option_and_then};
-ghost use Rattle.store_tables.specs.SlotTables.{IsGapless};
-ghost use Rattle.frame_counters.specs.PeerMarks.{peers};
-ghost use Rattle.routing_set.specs.RoutingSet.{ranks};
 ghost use Rattle.group_keys.specs.KeyBook as book;
 ghost use Rattle.node_rules.specs.Memory as memory;
 ghost use Rattle.node_rules.specs.RestartStates.{memory_of};
@@ -176,9 +173,7 @@ impl<K: Keeper + Drop> Coordinator<K> {
             ≡ if_read (memory_of memory.Coordinator self.old.station.store.records) }
         ensures store { self.new.station.store ≡ self.old.station.store }
         ensures eui { self.new.station.eui ≡ self.old.station.eui }
-        ensures holds { IsGapless peers self.old.station.store.records
-            → IsGapless ranks self.old.station.store.records → IsGapless book.entries self.old.station.store.records
-            → HasCoordinatorAddress self.old.station.store.records → CoordinatorAgrees (node_of self.new) }
+        ensures holds { HasCoordinatorAddress self.old.station.store.records → CoordinatorAgrees (node_of self.new) }
     {
         self.randoms.clear();
         self.sessions.clear();

@@ -20,9 +20,9 @@
 //!   `state` of `tick`, `answer` and `memory` of `restart`). A refusal comes for the first reason that the rule names, and but
 //!   for Store nothing has changed then. Where `restart` answers BadStore, it has forgotten all but the store, and the
 //!   coordinator is halted.
-//! - What it holds as stored is what its store gives, and its address is 0000: `open` begins so where no table of the store has
-//!   a gap and its ring, if there is one, has that address; each call asks for it and keeps it (`holds`, in `hear` a part of `ready`). Also where a write of
-//!   `rekey` or `activate_self` fails, the store keeps a ring of the address 0000 (`home`).
+//! - What it holds as stored is what its store gives, and its address is 0000: `open` begins so where its ring, if
+//!   there is one, has that address; each call asks for it and keeps it (`holds`, in `hear` a part of `ready`). Also where a write of `rekey` or
+//!   `activate_self` fails, the store keeps a ring of the address 0000 (`home`).
 //! - `open` gives exactly what the store says, or the first fault (`opened`, `running`, `refused`).
 //!
 //! It takes memory in `open` alone, and has no `unsafe`. It reads no clock and draws no random value, and sends nothing by

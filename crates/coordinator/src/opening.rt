@@ -1,8 +1,6 @@
 //! How a coordinator begins over what its keeper holds.
 ghost use Rattle.std.specs.Prelude.{◌≡◌, [], false, is_some, Ok, Err, IfSome, IsSome, IfOk, IfErr};
 ghost use Rattle.store_tables.specs.SlotTables as slots;
-ghost use Rattle.frame_counters.specs.PeerMarks.{peers};
-ghost use Rattle.routing_set.specs.RoutingSet.{ranks};
 ghost use Rattle.group_keys.specs.KeyBook as book;
 ghost use Rattle.node_rules.specs.RestartStates.{station_of, first_grant};
 ghost use Rattle.node_rules.specs.Coordinators as rules;
@@ -40,8 +38,7 @@ fn open_book<K: Keeper + Drop>(
 ) -> Result<KeyBook, OpenFault>
     ensures same { station.new ≡ station.old }
     ensures read { IfOk result (λ b. slots.opened book.entries station.old.store.records ≡ Ok b) }
-    ensures kept { slots.IsGapless book.entries station.old.store.records
-        → IfOk result (λ b. book.AgreesWith b station.old.store.records) }
+    ensures kept { IfOk result (λ b. book.AgreesWith b station.old.store.records) }
     ensures bad { IfErr result (λ fault. coordinator_start.IsBookFault (slots.opened book.entries station.old.store.records) fault) }
 {
     match KeyBook::open(alloc, station.keeper_mut()) {
@@ -51,8 +48,7 @@ fn open_book<K: Keeper + Drop>(
     }
 }
 
-// Stores the first ring at the station of a coordinator, whichever book it has, and reads the store again. The station's own `install` would ask
-// that it agrees with its keeper, and a store whose tables have gaps does not give that.
+// Stores the first ring at the station of a coordinator, whichever book it has, and reads the store again.
 fn store_first<K: Keeper + Drop>(station: &mut Station<K>, key: &Key) -> Result<(), RingRefusal>
     requires running { IsSome station.old.memory }
     requires read { station.old.memory ≡ stations.if_read (station_of station.old.store.records) }
@@ -94,7 +90,7 @@ impl<K: Keeper + Drop> Coordinator<K> {
     /// A coordinator over what its keeper holds, not halted, without a random value and a session. Where the keeper holds no ring,
     /// it stores one with the address 0000 and this key, active at index 0. Its memory is taken here, and only here.
     ///
-    /// Memory, where there is none for it; BadStore, with the first slot that is read and has no reading, the station's before the
+    /// Memory, where there is none for it; BadStore, with the first slot whose record has no reading or was lost, the station's before the
     /// book's; Store, where the put of the ring failed. The keeper comes back with each fault, as it was but for that put.
     pub fn open(
         alloc: Global,
@@ -104,8 +100,7 @@ impl<K: Keeper + Drop> Coordinator<K> {
     ) -> Result<Coordinator<K>, (OpenFault, K)>
         ensures opened { IfOk result (λ c. coordinator_start.Begins (K.store keeper) eui key.now (Ok tt) (node_of c)) }
         ensures running { IfOk result (λ c. IsSome (node_of c).memory) }
-        ensures holds { slots.IsGapless peers (K.store keeper).records → slots.IsGapless ranks (K.store keeper).records
-            → slots.IsGapless book.entries (K.store keeper).records → coordinator_start.MayBegin (K.store keeper).records
+        ensures holds { coordinator_start.MayBegin (K.store keeper).records
             → IfOk result (λ c. CoordinatorAgrees (node_of c)) }
         ensures refused { IfErr result (λ e. coordinator_start.IsOpenFault (K.store keeper) eui key.now e.0 (K.store e.1)) }
     {

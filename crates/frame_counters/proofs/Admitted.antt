@@ -21,7 +21,7 @@ room_by before table records from counter h room =
     room_has 0x0100 64 Replayed PeersFull table from counter sound.short room
 
 holds : (before : List Admitted) (was : Option Table) (records : Records) → Admits before was records → Holds before was records
-holds before was records (begins table r e gapless) = numbers.admitted_begins 0x0100 64 table r e gapless
+holds before was records (begins table r e) = numbers.admitted_begins 0x0100 64 table r e
 holds before was records (keeps b table from counter old new earlier short fits room stores) =
     let h = holds b (Some table) old.records earlier in
     numbers.admitted_more 0x0100 64 b table from counter old new h short fits (room_by b table old.records from counter h room) stores

@@ -2,15 +2,14 @@
 use Rattle.std.specs.Prelude.{◌≡◌, ℕ, ◌^◌, ◌<◌, true, false, List, [], ◌∷◌, Option, Some, None, Ok}
 use Rattle.std.specs.FinMap.{get}
 use Rattle.plc_base.specs.Keeper.{Records, Store, Stores}
-use Rattle.store_tables.specs.SlotTables.{IsGapless, slot_of, opened}
+use Rattle.store_tables.specs.SlotTables.{slot_of, opened}
 use Rattle.store_tables.specs.AdmittedNumbers.{Admitted}
 use Rattle.frame_counters.specs.PeerMarks.{Table, peers, room_for, keep_write, kept_after}
 
 -- What was admitted, the last first, since some opening; the marks, none where a put failed and they were not opened again;
 -- and the records.
 pub data Admits : List Admitted → Option Table → Records → Type 0 where
-  begins : (table : Table) (records : Records) → opened peers records ≡ Ok table → IsGapless peers records
-      → Admits [] (Some table) records
+  begins : (table : Table) (records : Records) → opened peers records ≡ Ok table → Admits [] (Some table) records
   keeps : (before : List Admitted) (table : Table) (from counter : ℕ) (old new : Store)
       → Admits before (Some table) old.records
       → from < 0xFFFE → counter < 2 ^ 32 → room_for table from counter ≡ Ok (tt {0})

@@ -3,7 +3,7 @@ ghost use Rattle.std.specs.Prelude.{◌≡◌, [], Ok, Some, List, is_ok, IfOk, 
 ghost use Rattle.std.specs.Bool.{OnTrue};
 ghost use Rattle.std.specs.Ordering.{nat_cmp};
 ghost use Rattle.plc_base.specs.Keeper.{Stores, OutsideStays, IsOldOrNew};
-ghost use Rattle.store_tables.specs.SlotTables.{IsTable, IsGapless, IsReading, IsBad, Reopens, ReopensInto, opened, read_into};
+ghost use Rattle.store_tables.specs.SlotTables.{IsTable, IsReading, IsBad, Reopens, ReopensInto, opened, read_into};
 ghost use Rattle.store_tables.specs.OpenFaults.{IsOpened, IsFault};
 ghost use Rattle.store_tables.specs.AdmittedNumbers.{Admitted, AllEarlier};
 ghost use Rattle.frame_counters.specs.Admitted.{Admits};
@@ -47,13 +47,12 @@ impl PeerMarks {
     /// The marks that the records from slot 0100 on give, up to the first empty slot. Each mark is the stored one.
     ///
     /// Memory where there is none for 64 marks. BadStore exactly where one of these records has not 6 octets, has an address above FFFD,
-    /// or is a second one of an address. After either no memory is held.
+    /// or is a second one of an address, or a record stands behind the first empty slot. After either no memory is held.
     pub fn open<K: Keeper>(alloc: Global, keeper: &K) -> Result<PeerMarks, OpenFault>
         ensures table { IsOpened result (opened peers (K.store keeper.now).records) }
         ensures reading { IfOk result (λ table. IsReading peers table (K.store keeper.now).records) }
         ensures bad { IfErr result (IsFault (IsBad peers (K.store keeper.now).records)) }
-        ensures kept { IsGapless peers (K.store keeper.now).records
-            → IfOk result (λ table. AgreesWith table (K.store keeper.now).records) }
+        ensures kept { IfOk result (λ table. AgreesWith table (K.store keeper.now).records) }
         // Marks that were kept are opened again, each at its stored mark.
         ensures reopened { Reopens peers (K.store keeper.now).records result }
     {
@@ -67,7 +66,7 @@ impl PeerMarks {
         ensures reading { OnOk result (IsReading peers self.new (K.store keeper.now).records) }
         ensures bad { IfErr result (λ bad. IsBad peers (K.store keeper.now).records bad.slot) }
         ensures none { OnErr result (self.new ≡ []) }
-        ensures kept { IsGapless peers (K.store keeper.now).records → OnOk result (AgreesWith self.new (K.store keeper.now).records) }
+        ensures kept { OnOk result (AgreesWith self.new (K.store keeper.now).records) }
         ensures reopened { ReopensInto peers (K.store keeper.now).records result self.new }
     {
         self.marks.reload(keeper)

@@ -4,7 +4,7 @@ ghost use Rattle.std.specs.Bool.{OnTrue};
 ghost use Rattle.std.specs.Option.{option_map, option_and_then};
 ghost use Rattle.plc_base.specs.Keeper.{Stores, OutsideStays, IsOldOrNew};
 ghost use Rattle.store_tables.specs.OpenFaults.{IsOpened, IsFault};
-ghost use Rattle.store_tables.specs.SlotTables.{IsTable, IsGapless, IsReading, IsBad, Reopens, ReopensInto, opened, read_into};
+ghost use Rattle.store_tables.specs.SlotTables.{IsTable, IsReading, IsBad, Reopens, ReopensInto, opened, read_into};
 ghost use Rattle.plc_base.specs.declared.address.Eui.{Eui};
 ghost use Rattle.group_keys.specs.KeyBook.{Book, entries, AgreesWith, AddressesStay, entry_for, holds, address_of, is_allowed, issued_at, has_room, place_for};
 ghost use Rattle.group_keys.specs.KeyBook.{with_entry, change_write, allowed_one, allow_result, allow_after, allow_write, kick_result, kick_after, kick_write};
@@ -138,14 +138,13 @@ impl KeyBook {
     /// The book that the records from slot 1000 (hexadecimal) on give, up to the first empty slot.
     ///
     /// Memory where there is none for 999 meters. BadStore exactly where one of these records has not 61 octets, a flag above 1, other
-    /// octets than zeros where no key is held, another address than its place in the book plus 1, or is a second one of an EUI. After
-    /// either no memory is held.
+    /// octets than zeros where no key is held, another address than its place in the book plus 1, or is a second one of an EUI, or a record
+    /// stands behind the first empty slot. After either no memory is held.
     pub fn open<K: Keeper>(alloc: Global, keeper: &K) -> Result<KeyBook, OpenFault>
         ensures book { IsOpened result (opened entries (K.store keeper.now).records) }
         ensures reading { IfOk result (λ book. IsReading entries book (K.store keeper.now).records) }
         ensures bad { IfErr result (IsFault (IsBad entries (K.store keeper.now).records)) }
-        ensures kept { IsGapless entries (K.store keeper.now).records
-            → IfOk result (λ book. AgreesWith book (K.store keeper.now).records) }
+        ensures kept { IfOk result (λ book. AgreesWith book (K.store keeper.now).records) }
         // A book that was kept is opened again as it was.
         ensures reopened { Reopens entries (K.store keeper.now).records result }
     {
@@ -159,8 +158,7 @@ impl KeyBook {
         ensures reading { OnOk result (IsReading entries self.new (K.store keeper.now).records) }
         ensures bad { IfErr result (λ bad. IsBad entries (K.store keeper.now).records bad.slot) }
         ensures none { OnErr result (self.new ≡ []) }
-        ensures kept { IsGapless entries (K.store keeper.now).records
-            → OnOk result (AgreesWith self.new (K.store keeper.now).records) }
+        ensures kept { OnOk result (AgreesWith self.new (K.store keeper.now).records) }
         ensures reopened { ReopensInto entries (K.store keeper.now).records result self.new }
     {
         self.table.reload(keeper)

@@ -9,7 +9,7 @@ use Rattle.plc_base.specs.declared.keeper.BadStore.{BadStore}
 use Rattle.plc_base.specs.declared.key.Key.{Key}
 use Rattle.plc_base.specs.Grant.{Granted}
 use Rattle.plc_base.specs.Keeper.{Records, Store}
-use Rattle.store_tables.proofs.OpenedTables.{stored_gapless, empty_gapless}
+use Rattle.store_tables.proofs.OpenedTables.{stored_gapless}
 use Rattle.frame_counters.specs.PeerMarks as marks
 use Rattle.group_keys.specs.KeyBook as book
 use Rattle.group_keys.specs.KeyRing.{ring_at, ring_slot}
@@ -84,13 +84,3 @@ module _ (store : Store) (eui : Eui) (key : Key) (y : CoordinatorState) (new : s
   -- it may begin
   pub may_begin : MayBegin store.records
   may_begin = subst (λ (s : Store). MayBegin s.records) (sym new) (inl (ap ring_at (get-empty nat_cmp ring_slot)))
-
-  -- no table has a gap
-  pub no_gaps : HasGaplessTables Coordinator store.records
-  no_gaps =
-      let none : store.records ≡ empty = ap (λ (s : Store). s.records) new in
-      record {
-        marks = empty_gapless marks.peers store.records none;
-        ranks = empty_gapless routing.ranks store.records none;
-        entries = empty_gapless book.entries store.records none;
-      }

@@ -9,7 +9,6 @@ use Rattle.plc_base.specs.declared.address.Eui.{Eui}
 use Rattle.plc_base.specs.declared.key.Key.{Key}
 use Rattle.plc_base.specs.declared.keeper.BadStore.{BadStore}
 use Rattle.plc_base.specs.Keeper.{Store}
-use Rattle.store_tables.specs.SlotTables as slots
 use Rattle.store_tables.proofs.OpenedTables.{empty_gapless}
 use Rattle.frame_counters.specs.PeerMarks as marks
 use Rattle.routing_set.specs.RoutingSet as routing
@@ -35,7 +34,7 @@ pub record Opened (keeper : Store) (own : Eui) (key : Key) (y : MeterState) : Ty
   pub eui : y.station.eui ≡ own
   pub psk : y.psk ≡ key
   pub memory : (node_of y).memory ≡ result_ok (memory_of (Meter key) keeper.records)
-  pub agrees : slots.IsGapless marks.peers keeper.records → slots.IsGapless routing.ranks keeper.records → Agrees y.station
+  pub agrees : Agrees y.station
 
 module _ (keeper : Store) (own : Eui) (key : Key) (y : MeterState) (o : Opened keeper own key y) where
   records_empty : keeper.records ≡ empty
@@ -53,7 +52,7 @@ module _ (keeper : Store) (own : Eui) (key : Key) (y : MeterState) (o : Opened k
         ranks = empty_gapless routing.ranks y.station.store.records none;
         entries = tt;
       })
-      (o.agrees (empty_gapless marks.peers keeper.records records_empty) (empty_gapless routing.ranks keeper.records records_empty))
+      o.agrees
 
   memory_blank : (node_of y).memory ≡ Some (remembering blank_station [])
   memory_blank =

@@ -1,2 +1,2 @@
-pub mod Gaps
+pub mod LoadedSlots
 pub mod Serves

@@ -1,9 +1,6 @@
 //! A meter over a keeper that lists its puts.
 ghost use Rattle.std.specs.Prelude.{◌≡◌, [], Some, None, IsSome, IfOk, IfErr, MatchBool};
 ghost use Rattle.std.specs.Result.{result_ok};
-ghost use Rattle.store_tables.specs.SlotTables.{IsGapless};
-ghost use Rattle.frame_counters.specs.PeerMarks.{peers};
-ghost use Rattle.routing_set.specs.RoutingSet.{ranks};
 ghost use Rattle.node_rules.specs.Memory as memory;
 ghost use Rattle.node_rules.specs.RestartStates.{memory_of};
 ghost use Rattle.meter_node.specs.MeterStates.{node_of};
@@ -54,10 +51,8 @@ fn write_listed<K: Sink>(
 }
 
 impl Host {
-    /// Opens a meter over a keeper: BadStore exactly where a record has no reading, and Memory where there is no memory.
+    /// Opens a meter over a keeper: BadStore exactly where a record has no reading or was lost, and Memory where there is no memory.
     pub fn open(alloc: Global, keeper: OutboxKeeper, eui: Eui, psk: Key) -> Result<Host, Status>
-        requires marks { IsGapless peers keeper.records }
-        requires ranks { IsGapless ranks keeper.records }
         ensures opened { IfOk result (λ h. (h.station.store ≡ keeper) × (h.station.eui ≡ eui) × (h.psk ≡ psk)
             × ((node_of h).memory ≡ result_ok (memory_of (memory.Meter psk) keeper.records))) }
         ensures running { IfOk result (λ h. IsSome h.station.memory) }

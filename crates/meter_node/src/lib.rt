@@ -15,7 +15,7 @@
 //!
 //! - Each call is its rule of `node_rules` carried out, whichever write to the store fails (`carries`; `state` of `tick`, `answer` and
 //!   `memory` of `restart`). A refusal comes for the first reason that the rule names, and but for Store nothing has changed then.
-//! - What it holds as stored is what its store gives; `open` begins so where no table of the store has a gap, and each call asks for it
+//! - What it holds as stored is what its store gives; `open` begins so, and each call asks for it
 //!   (`ready`, `agrees`) and keeps it, with the pair key (`after`; `agrees` and `psk` of `restart`).
 //! - `open` gives exactly what the store says, or its first fault (`opened`, `running`, `refused`).
 //!

@@ -2,9 +2,6 @@
 ghost use Rattle.std.specs.Prelude.{◌≡◌, ◌≤◌, length, Some, None, Ok, Err, IfSome, IsSome, IfNone, IfOk, IfErr};
 ghost use Rattle.std.specs.Result.{result_ok};
 ghost use Rattle.std.specs.Option.{option_map, option_and_then};
-ghost use Rattle.store_tables.specs.SlotTables.{IsGapless};
-ghost use Rattle.frame_counters.specs.PeerMarks.{peers};
-ghost use Rattle.routing_set.specs.RoutingSet.{ranks};
 ghost use Rattle.node_rules.specs.Memory as memory;
 ghost use Rattle.node_rules.specs.Meters as meters;
 ghost use Rattle.node_rules.specs.RestartStates.{memory_of};
@@ -61,14 +58,13 @@ impl<K: Keeper + Drop> Meter<K> {
 
     /// A meter over what its keeper holds, not halted, without a random value and a session. Its memory is taken here, and only here.
     ///
-    /// Memory where there is none for it; BadStore exactly where a record has no reading, with the slot of the first one. Never Store. The
-    /// keeper comes back with the fault.
+    /// Memory where there is none for it; BadStore exactly where a record has no reading or was lost, with the slot of the first one. Never
+    /// Store. The keeper comes back with the fault.
     pub fn open(alloc: Global, keeper: K, eui: Eui, psk: Key) -> Result<Meter<K>, (OpenFault, K)>
         ensures opened { IfOk result (λ m. (m.station.store ≡ K.store keeper) × (m.station.eui ≡ eui) × (m.psk ≡ psk)
             × ((node_of m).memory ≡ result_ok (memory_of (memory.Meter psk) (K.store keeper).records))) }
         ensures running { IfOk result (λ m. IsSome m.station.memory) }
-        ensures agrees { IsGapless peers (K.store keeper).records → IsGapless ranks (K.store keeper).records
-            → IfOk result (λ m. Agrees m.station) }
+        ensures agrees { IfOk result (λ m. Agrees m.station) }
         ensures refused { IfErr result (λ e.
             (e.1 ≡ keeper) × IsOpenFault (memory_of (memory.Meter psk) (K.store keeper).records) e.0) }
     {
@@ -184,8 +180,7 @@ impl<K: Keeper + Drop> Meter<K> {
         ensures store { self.new.station.store ≡ self.old.station.store }
         ensures eui { self.new.station.eui ≡ self.old.station.eui }
         ensures psk { self.new.psk ≡ self.old.psk }
-        ensures agrees { IsGapless peers self.old.station.store.records → IsGapless ranks self.old.station.store.records
-            → Agrees self.new.station }
+        ensures agrees { Agrees self.new.station }
     {
         self.randoms.clear();
         self.session = None;

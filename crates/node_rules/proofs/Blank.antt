@@ -3,7 +3,7 @@ use Rattle.std.proofs.Common.{◌≡◌, [], replicate, Some, None, Ok, refl, ap
 use Rattle.std.specs.Ordering.{nat_cmp}
 use Rattle.std.specs.FinMap.{get, empty, get-empty}
 use Rattle.store_tables.specs.SlotTables as slots
-use Rattle.store_tables.proofs.OpenedTables.{opened_from-empty}
+use Rattle.store_tables.proofs.OpenedTables.{opened_empty}
 use Rattle.frame_counters.specs.SendCounter as counter
 use Rattle.frame_counters.specs.PeerMarks as marks
 use Rattle.group_keys.specs.KeyRing as ring
@@ -14,14 +14,11 @@ use Rattle.node_rules.specs.Memory.{Coordinator, Meter}
 use Rattle.node_rules.specs.RestartStates.{station_of, tag_in, blank_station, blank_routing}
 use Rattle.node_rules.specs.Laws.{AnEmptyStoreIsBlank}
 
-no_entries : {A : Type 0} (layout : slots.Layout A) → slots.opened layout empty ≡ Ok []
-no_entries layout = opened_from-empty layout layout.slots 0 empty [] (get-empty nat_cmp (slots.slot_of layout 0))
-
 no_ranks : routing.opened empty ≡ Ok blank_routing
 unfolding routing.floors_in
 no_ranks =
     ap (λ o. routing.routing_of (routing.floors_in o) (slots.opened routing.ranks empty)) (get-empty nat_cmp routing.floor_slot)
-    ∙ ap (routing.routing_of (Some (replicate 16 0))) (no_entries routing.ranks)
+    ∙ ap (routing.routing_of (Some (replicate 16 0))) (opened_empty routing.ranks)
 
 blank_on_line : station_of empty ≡ Ok blank_station
 unfolding station_of
@@ -31,9 +28,9 @@ blank_on_line =
     let n : own_number.opened empty
     ≡ Ok (own_number.numbering_at 1) = ap (λ o. own_number.numbering_from (own_number.limit_in o)) (get-empty nat_cmp own_number.limit_slot) in
     let t : tag_in (get empty 4) ≡ Ok 0 = ap tag_in (get-empty nat_cmp 4) in
-    let e : slots.opened marks.peers empty ≡ Ok [] = no_entries marks.peers in
+    let e : slots.opened marks.peers empty ≡ Ok [] = opened_empty marks.peers in
     rw (r, c, n, t, no_ranks, e) refl
 
 pub blank : AnEmptyStoreIsBlank
 blank (Meter psk) = rw blank_on_line refl
-blank Coordinator = let b : slots.opened book.entries empty ≡ Ok [] = no_entries book.entries in rw (blank_on_line, b) refl
+blank Coordinator = let b : slots.opened book.entries empty ≡ Ok [] = opened_empty book.entries in rw (blank_on_line, b) refl

@@ -1,26 +1,20 @@
 -- What agreement owes to the part that put.
-use Rattle.std.proofs.Common.{ℕ, inl, inr, Option, Some, None, ap, ◌∙◌, arith}
-use Rattle.std.specs.Prelude.{IfSome, IsSome}
+use Rattle.std.proofs.Common.{ℕ, inl, inr, ap, ◌∙◌, arith}
 use Rattle.plc_base.specs.Keeper.{Records, SameOutside}
-use Rattle.store_tables.specs.SlotTables.{IsGapless}
-use Rattle.store_tables.proofs.OpenedTables.{stored_gapless}
 use Rattle.store_tables.proofs.SlotTables.{stored_elsewhere}
 use Rattle.frame_counters.specs.PeerMarks.{peers}
 use Rattle.frame_counters.specs.SendCounter as counter
 use Rattle.fragment_buffers.specs.NextTag as next_tag
 use Rattle.group_keys.specs.KeyRing.{ring_at, Ring}
 use Rattle.group_keys.specs.KeyRing as ring
-use Rattle.routing_set.specs.RoutingSet.{ranks}
 use Rattle.routing_set.specs.RoutingSet as routing
-use Rattle.routing_set.proofs.Gapless.{kept_gapless}
 use Rattle.routing_set.specs.OwnNumber as own_number
 use Rattle.routing_set.proofs.Beside.{kept_elsewhere as routing_elsewhere, stored_beside}
 use Rattle.node_rules.specs.Memory.{StationMemory}
 use Rattle.node_rules.specs.RestartStates.{tag_in}
 use Rattle.station_queues.specs.Bodies.{Held}
 use Rattle.plc_station.specs.StationViews.{station_in}
-use Rattle.node_rules.specs.Agreement.{Agrees, AgreesWith}
-use Rattle.node_rules.specs.States.{State}
+use Rattle.node_rules.specs.Agreement.{AgreesWith}
 use Rattle.plc_station.specs.declared.parts.Parts.{Parts}
 
 pub agrees_counted : (l : StationMemory) (x : counter.Counting) (old new : Records) → AgreesWith l old → counter.AgreesWith x new → SameOutside 2 2 old new
@@ -88,12 +82,3 @@ agrees_ringed l x old new a kept same = record {
   own_number = record { limit = ap own_number.limit_in (same 3 (inr (omega arith))) ∙ a.own_number.limit; below = a.own_number.below };
   tag = ap tag_in (same 4 (inr (omega arith))) ∙ a.tag;
 }
-
--- tables that are stored have no record after their first empty slot
-pub gapless_kept : (s : State StationMemory) → IsSome s.memory → Agrees s → IsGapless peers s.store.records × IsGapless ranks s.store.records
-gapless_kept s running agrees = by_memory s.memory running agrees
-  where
-    by_memory : (m : Option StationMemory) → IsSome m → IfSome m (λ l. AgreesWith l s.store.records)
-        → IsGapless peers s.store.records × IsGapless ranks s.store.records
-    by_memory None r a = absurd (cc)
-    by_memory (Some l) r a = (stored_gapless peers l.marks s.store.records a.marks, kept_gapless l.routing s.store.records a.routing)

@@ -24,7 +24,7 @@
 //!
 //! - Each call is its rule of `node_rules` carried out, whichever write to the store fails (`carries`; `state` of `tick` and
 //!   `restart`, `ended` of `broke`, `room`, `shown`). A refusal comes for the first reason that the rule names.
-//! - What it holds as stored is what its store gives: `open` begins so where no table of the store has a gap, and each call
+//! - What it holds as stored is what its store gives: `open` begins so, and each call
 //!   asks for it (`ready`, `agrees`) and keeps it (`after`; `agrees` of `hear`, `tick`, `broke` and `restart`); what is put through `keeper_mut` may end
 //!   it. A halted station answers Halted and changes nothing (`halted`).
 //! - `open` gives exactly what the store says, or its first fault (`opened`, `running`, `refused`).

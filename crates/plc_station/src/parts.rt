@@ -1,8 +1,5 @@
 //! What a station holds of its store.
 ghost use Rattle.std.specs.Prelude.{◌≡◌, Ok, Err, MatchResult, IfOk, OnOk};
-ghost use Rattle.store_tables.specs.SlotTables.{IsGapless};
-ghost use Rattle.frame_counters.specs.PeerMarks.{peers};
-ghost use Rattle.routing_set.specs.RoutingSet.{ranks};
 ghost use Rattle.node_rules.specs.RestartStates.{station_of};
 ghost use Rattle.node_rules.specs.Agreement.{AgreesWith};
 ghost use Rattle.plc_station.specs.OpenFaults.{IsOpeningFault};
@@ -28,14 +25,13 @@ pub struct Parts {
 }
 
 impl Parts {
-    /// What the records of a keeper give. BadStore where one of them has no reading, Memory where there is none for the tables.
+    /// What the records of a keeper give. BadStore where one of them has no reading or was lost, Memory where there is none for the tables.
     #[tactic(auto, unfolding(node_rules::specs::RestartStates::station_of))]
     pub(crate) fn open<K: Keeper>(alloc: Global, keeper: &K) -> Result<Parts, OpenFault>
         ensures station { MatchResult result
             (λ p. station_of (K.store keeper.now).records ≡ Ok (station_in p no_bodies))
             (IsOpeningFault (station_of (K.store keeper.now).records)) }
-        ensures agrees { IsGapless peers (K.store keeper.now).records → IsGapless ranks (K.store keeper.now).records
-            → IfOk result (λ p. AgreesWith (station_in p no_bodies) (K.store keeper.now).records) }
+        ensures agrees { IfOk result (λ p. AgreesWith (station_in p no_bodies) (K.store keeper.now).records) }
     {
         let ring = KeyRing::open(keeper)?;
         let counter = SendCounter::open(keeper)?;
@@ -60,8 +56,7 @@ impl Parts {
         ensures station { MatchResult result
             (λ _. station_of (K.store keeper.now).records ≡ Ok (station_in self.new no_bodies))
             (λ bad. station_of (K.store keeper.now).records ≡ Err bad) }
-        ensures agrees { IsGapless peers (K.store keeper.now).records → IsGapless ranks (K.store keeper.now).records
-            → OnOk result (AgreesWith (station_in self.new no_bodies) (K.store keeper.now).records) }
+        ensures agrees { OnOk result (AgreesWith (station_in self.new no_bodies) (K.store keeper.now).records) }
     {
         self.ring = KeyRing::open(keeper)?;
         self.counter = SendCounter::open(keeper)?;

@@ -2,9 +2,6 @@
 ghost use Rattle.std.specs.Prelude.{◌≡◌, Some, None, Ok, Err, IsSome, IfOk, IfErr};
 ghost use Rattle.std.specs.Bool.{MatchBool};
 ghost use Rattle.std.specs.Option.{option_map};
-ghost use Rattle.store_tables.specs.SlotTables.{IsGapless};
-ghost use Rattle.frame_counters.specs.PeerMarks.{peers};
-ghost use Rattle.routing_set.specs.RoutingSet.{ranks};
 ghost use Rattle.node_rules.specs.RestartStates.{station_of};
 ghost use Rattle.node_rules.specs.Agreement.{Agrees};
 ghost use Rattle.plc_station.specs.StationViews.{if_read, read_answer};
@@ -25,7 +22,7 @@ pub enum OpenFault {
     /// There is no memory for it.
     #[error("out of memory")]
     Memory,
-    /// A record of its store has no reading.
+    /// A record of its store has no reading, or was lost: a later one of its table is there.
     #[error("{0}")]
     BadStore(BadStore),
     /// A store write failed. A coordinator alone writes when it is opened.
@@ -76,8 +73,8 @@ impl<K: Keeper + Drop> Station<K> {
 
     /// A station over what its keeper holds, not halted. Its memory is taken here, and only here.
     ///
-    /// Memory where there is none for it; BadStore exactly where a record has no reading, with the slot of the first one. Never Store. The
-    /// keeper comes back with the fault.
+    /// Memory where there is none for it; BadStore exactly where a record has no reading or was lost, with the slot of the first one. Never
+    /// Store. The keeper comes back with the fault.
     pub fn open(alloc: Global, keeper: K, eui: Eui) -> Result<Station<K>, (OpenFault, K)>
         ensures opened { IfOk result (λ s. s ≡ record {
           store = K.store keeper;
@@ -86,8 +83,7 @@ impl<K: Keeper + Drop> Station<K> {
           replied = None;
         }) }
         ensures running { IfOk result (λ s. IsSome s.memory) }
-        ensures agrees { IsGapless peers (K.store keeper).records → IsGapless ranks (K.store keeper).records
-            → IfOk result (λ s. Agrees s) }
+        ensures agrees { IfOk result (λ s. Agrees s) }
         ensures refused { IfErr result (λ e. (e.1 ≡ keeper) × IsOpenFault (station_of (K.store keeper).records) e.0) }
     {
         let Ok(bodies) = Bodies::new(alloc) else {
@@ -151,17 +147,14 @@ impl<K: Keeper + Drop> Station<K> {
         Some((reply.to, reply.number, reply.origin))
     }
 
-    /// Forgets everything but the store, and ends a halt. After BadStore it is halted. A station that ran and agreed with its keeper
-    /// agrees with it again.
+    /// Forgets everything but the store, and ends a halt: it agrees with its keeper. BadStore as `open` answers it, and then it is halted.
     pub fn restart(&mut self) -> Result<(), BadStore>
         ensures answer { result ≡ read_answer (station_of self.old.store.records) }
         ensures state { self.new ≡ record self.old {
           memory = if_read (station_of self.old.store.records);
           replied = None;
         } }
-        ensures agrees { IsGapless peers self.old.store.records → IsGapless ranks self.old.store.records
-            → Agrees self.new }
-        ensures again { IsSome self.old.memory → Agrees self.old → Agrees self.new }
+        ensures agrees { Agrees self.new }
     {
         self.halted = true;
         self.replied = None;

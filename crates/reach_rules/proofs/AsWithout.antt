@@ -5,7 +5,7 @@ use Rattle.std.specs.Option.{option_map_or}
 use Rattle.std.specs.Ordering.{nat_cmp}
 use Rattle.std.specs.FinMap.{empty, get-empty}
 use Rattle.store_tables.specs.SlotTables as slots
-use Rattle.store_tables.proofs.OpenedTables.{opened_from-empty}
+use Rattle.store_tables.proofs.OpenedTables.{opened_empty}
 use Rattle.mesh_header.specs.declared.unit.Unit.{Unit as MeshUnit}
 use Rattle.mesh_header.specs.declared.unit.Unit.TheVariants as units
 use Rattle.mesh_header.specs.Reader.{unit_in}
@@ -144,5 +144,5 @@ no_scan role l scan octets link off = discovery_stays role l scan (discovery_in 
 pub nothing_stored : AnEmptyStoreGivesNothing
 nothing_stored =
     let number : numbering_in empty ≡ Ok (counting_at 0) = ap (λ o. counting_from limit_at (limit_in o)) (get-empty nat_cmp limit_slot) in
-    let origins : slots.opened marks empty ≡ Ok [] = opened_from-empty marks marks.slots 0 empty [] (get-empty nat_cmp (slots.slot_of marks 0)) in
+    let origins : slots.opened marks empty ≡ Ok [] = opened_empty marks in
     rw (number, origins) refl

@@ -4,7 +4,6 @@ pub mod FloorRecords
 pub mod RouteEnds
 pub mod FirstEnds
 pub mod Offers
-pub mod Gapless
 pub mod RankOrder
 pub mod LookUps
 pub mod RisingRanks

@@ -5,7 +5,7 @@ ghost use Rattle.std.specs.Ordering.{nat_cmp};
 ghost use Rattle.std.specs.List.{list_all};
 ghost use Rattle.plc_base.specs.Keeper.{Records};
 ghost use Rattle.store_tables.specs.Writes.{Wrote};
-ghost use Rattle.store_tables.specs.SlotTables.{IsTable, IsGapless, IsReading, read_into};
+ghost use Rattle.store_tables.specs.SlotTables.{IsTable, IsReading, read_into};
 ghost use Rattle.store_tables.specs.OpenFaults.{IsOpened, IsFault};
 ghost use Rattle.routing_set.specs.Ranks.{rank_by};
 ghost use Rattle.routing_set.specs.RouteEnds.{takes};
@@ -61,14 +61,14 @@ impl RoutingSet {
     /// slot 5 is empty, and the ranks, each with no valid route.
     ///
     /// Memory where there is none for 64 ranks. BadStore exactly where the record at slot 5 has not 32 octets, or one of the others has
-    /// not 6 octets, an address above FFFD, the number 0, or is a second one of an address. After either no memory is held.
+    /// not 6 octets, an address above FFFD, the number 0, or is a second one of an address, or a record stands behind the first empty slot.
+    /// After either no memory is held.
     pub fn open<K: Keeper>(alloc: Global, keeper: &K) -> Result<RoutingSet, OpenFault>
         ensures routing { IsOpened result (opened (K.store keeper.now).records) }
         ensures reading { IfOk result (λ routing. IsReading ranks routing.entries (K.store keeper.now).records) }
         ensures bad { IfErr result (IsFault (IsBad (K.store keeper.now).records)) }
         ensures unrouted { IfOk result (λ routing. (dest : ℕ) → route_of routing dest ≡ None) }
-        ensures kept { IsGapless ranks (K.store keeper.now).records
-            → IfOk result (λ routing. AgreesWith routing (K.store keeper.now).records) }
+        ensures kept { IfOk result (λ routing. AgreesWith routing (K.store keeper.now).records) }
         // What was kept is opened again, with no valid route.
         ensures reopened { (routing : Routing) → IsTable ranks routing.entries
             → AgreesWith routing (K.store keeper.now).records
@@ -92,8 +92,7 @@ impl RoutingSet {
         ensures bad { IfErr result (λ bad. IsBad (K.store keeper.now).records bad.slot) }
         ensures none { OnErr result (self.new ≡ empty_routing) }
         ensures unrouted { OnOk result ((dest : ℕ) → route_of self.new dest ≡ None) }
-        ensures kept { IsGapless ranks (K.store keeper.now).records
-            → OnOk result (AgreesWith self.new (K.store keeper.now).records) }
+        ensures kept { OnOk result (AgreesWith self.new (K.store keeper.now).records) }
         ensures reopened { (routing : Routing) → IsTable ranks routing.entries
             → AgreesWith routing (K.store keeper.now).records
             → read_into result self.new ≡ Ok (at_rest routing) }

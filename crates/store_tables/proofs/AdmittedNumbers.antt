@@ -9,7 +9,7 @@ use Rattle.std.proofs.lemmas.Option.{slice_get-get_or}
 use Rattle.std.proofs.lemmas.List.{length-map, get_or-map}
 use Rattle.std.proofs.lemmas.List.Elements.{All-push, All-set}
 use Rattle.plc_base.specs.Keeper.{Records, Store, Stores}
-use Rattle.store_tables.specs.SlotTables.{Layout, IsTable, IsFree, IsStored, IsGapless, IsReading, slot_of, opened}
+use Rattle.store_tables.specs.SlotTables.{Layout, IsTable, IsFree, IsStored, IsReading, slot_of, opened}
 use Rattle.store_tables.specs.declared.marks.Mark.{Mark}
 use Rattle.store_tables.specs.Marks.{Table, layout, slots_of, at_rest, IsCovered, place_of, mark_ahead, mark_in-rests, has_room, keep_write, kept_after}
 use Rattle.store_tables.specs.AdmittedNumbers.{Admitted, AllEarlier, IsNew, EachOnce}
@@ -273,10 +273,10 @@ module _ (first count : ℕ) where
           subst (λ (t : Marks). Steps table address number t) (sym after)
           (steps_new table address number h covered short fits e (room_new first count table address number e room))
 
-  pub admitted_begins : (table : Marks) (records : Records) → opened marks records ≡ Ok table → IsGapless marks records → HoldsAdmitted [] (Some table) records
-  admitted_begins table records e gapless =
+  pub admitted_begins : (table : Marks) (records : Records) → opened marks records ≡ Ok table → HoldsAdmitted [] (Some table) records
+  admitted_begins table records e =
       let reading : IsReading marks table records = opened_reads marks records (Ok table) (sym e) in
-      let stored = opened_kept marks records (Ok table) (λ _ octets entry h. mark_in-rests first count octets entry h) (sym e) gapless in
+      let stored = opened_kept marks records (Ok table) (λ _ octets entry h. mark_in-rests first count octets entry h) (sym e) in
       let same = reopened marks records table (λ _. refl) reading.sound stored in
       let rests : map (at_rest first count) table ≡ table = cc (e, same) in
       record {

@@ -15,7 +15,7 @@ use Rattle.std.specs.FinMap.{get, empty, get-empty}
 use Rattle.plc_base.specs.Keeper.{Records}
 use Rattle.plc_base.specs.declared.keeper.BadStore.{BadStore}
 use Rattle.store_tables.specs.SlotTables.{Layout, slot_of, place_of, IsTable, IsStored, IsGapless, IsReading, IsSecond, IsBad, entry_at, with_record, opened}
-use Rattle.store_tables.specs.SlotTables.{opened_from, read_into}
+use Rattle.store_tables.specs.SlotTables.{opened_from, is_empty_from, read_into}
 use Rattle.store_tables.proofs.SlotTables.{slice_get-push, slice_get-push_other, found, free_new, IsTable-push}
 
 -- # The three ways in which a record goes
@@ -34,11 +34,19 @@ with_record-new layout place table octets entry e new = rw (e, new) refl
 
 -- # From slot to slot
 
-pub opened_from-empty : {A : Type 0} (layout : Layout A) (left place : ℕ) (records : Records) (table : List A) → get records (slot_of layout place) ≡ None
+pub opened_from-empty : {A : Type 0} (layout : Layout A) (left rest place : ℕ) (records : Records) (table : List A) → left ≡ rest + 1
+    → get records (slot_of layout place) ≡ None → is_empty_from layout rest (place + 1) records ≡ true
     → opened_from layout left place records table ≡ Ok table
 unfolding opened_from
-opened_from-empty layout zero place records table e = refl
-opened_from-empty layout (suc left) place records table e = rw e refl
+opened_from-empty layout zero rest place records table h e last = absurd (omega arith)
+opened_from-empty layout (suc left) rest place records table h e last = let same : left ≡ rest = omega arith in rw (e, same, last) refl
+
+pub opened_from-lost : {A : Type 0} (layout : Layout A) (left rest place : ℕ) (records : Records) (table : List A) → left ≡ rest + 1
+    → get records (slot_of layout place) ≡ None → is_empty_from layout rest (place + 1) records ≡ false
+    → opened_from layout left place records table ≡ Err (record { slot = slot_of layout place })
+unfolding opened_from
+opened_from-lost layout zero rest place records table h e lost = absurd (omega arith)
+opened_from-lost layout (suc left) rest place records table h e lost = let same : left ≡ rest = omega arith in rw (e, same, lost) refl
 
 pub opened_from-damaged : {A : Type 0} (layout : Layout A) (left place : ℕ) (records : Records) (table : List A) (octets : List ℕ) → 0 < left
     → get records (slot_of layout place) ≡ Some octets → with_record layout place table octets ≡ None
@@ -58,6 +66,144 @@ pub opened_from-none_left : {A : Type 0} (layout : Layout A) (place : ℕ) (reco
     → opened_from layout 0 place records table ≡ Ok table
 unfolding opened_from
 opened_from-none_left layout place records table = refl
+
+-- # Behind an empty slot
+
+pub is_empty_from-none_left : {A : Type 0} (layout : Layout A) (place : ℕ) (records : Records) → is_empty_from layout 0 place records ≡ true
+unfolding is_empty_from
+is_empty_from-none_left layout place records = refl
+
+pub is_empty_from-held : {A : Type 0} (layout : Layout A) (left place : ℕ) (records : Records) (octets : List ℕ) → 0 < left
+    → get records (slot_of layout place) ≡ Some octets → is_empty_from layout left place records ≡ false
+unfolding is_empty_from
+is_empty_from-held layout zero place records octets h e = absurd (omega arith)
+is_empty_from-held layout (suc left) place records octets h e = rw e refl
+
+pub is_empty_from-more : {A : Type 0} (layout : Layout A) (left rest place : ℕ) (records : Records) → left ≡ rest + 1
+    → get records (slot_of layout place) ≡ None → is_empty_from layout left place records ≡ is_empty_from layout rest (place + 1) records
+unfolding is_empty_from
+is_empty_from-more layout zero rest place records h e = absurd (omega arith)
+is_empty_from-more layout (suc left) rest place records h e = let same : left ≡ rest = omega arith in rw (e, same) refl
+
+-- a record at the first of the slots, or none
+pub is_empty_from-some : {A : Type 0} (layout : Layout A) (left place : ℕ) (records : Records) → 0 < left
+    → is_some (get records (slot_of layout place)) ≡ true → is_empty_from layout left place records ≡ false
+is_empty_from-some layout left place records h there = by_record (get records (slot_of layout place)) refl there
+  where
+    by_record : (o : Option (List ℕ)) → get records (slot_of layout place) ≡ o → is_some o ≡ true → is_empty_from layout left place records ≡ false
+    by_record None is e = absurd (cc)
+    by_record (Some octets) is e = is_empty_from-held layout left place records octets h is
+
+pub is_empty_from-next : {A : Type 0} (layout : Layout A) (left rest place : ℕ) (records : Records) → left ≡ rest + 1
+    → is_some (get records (slot_of layout place)) ≡ false → is_empty_from layout left place records ≡ is_empty_from layout rest (place + 1) records
+is_empty_from-next layout left rest place records h none = by_record (get records (slot_of layout place)) refl none
+  where
+    by_record : (o : Option (List ℕ)) → get records (slot_of layout place) ≡ o → is_some o ≡ false
+        → is_empty_from layout left place records ≡ is_empty_from layout rest (place + 1) records
+    by_record None is e = is_empty_from-more layout left rest place records h is
+    by_record (Some octets) is e = absurd (cc)
+
+-- where no record stands, each slot is empty
+each_empty : {A : Type 0} (layout : Layout A) (left place : ℕ) (records : Records) → is_empty_from layout left place records ≡ true
+    → (q : ℕ) → place ≤ q → q < place + left → get records (slot_of layout q) ≡ None
+each_empty layout zero place records e q above below = absurd (omega arith)
+each_empty layout (suc left) place records e q above below = by_record (get records (slot_of layout place)) refl
+    (λ h within. each_empty layout left (place + 1) records h q within (omega arith))
+  where
+    by_record : (o : Option (List ℕ)) → get records (slot_of layout place) ≡ o
+        → (is_empty_from layout left (place + 1) records ≡ true → place + 1 ≤ q → get records (slot_of layout q) ≡ None)
+        → get records (slot_of layout q) ≡ None
+    by_record (Some octets) is later =
+        let held = is_empty_from-held layout (suc left) place records octets (omega arith) is in absurd (cc (e, held))
+    by_record None is later = elim (cases_eq q place) [
+      | inl here ↦ ap (λ k. get records (slot_of layout k)) here ∙ is
+      | inr other ↦ later (sym (is_empty_from-more layout (suc left) left place records (omega arith) is) ∙ e) (omega arith)
+    ]
+
+-- where each slot is empty, no record stands
+all_empty : {A : Type 0} (layout : Layout A) (left place : ℕ) (records : Records)
+    → ((q : ℕ) → place ≤ q → q < place + left → get records (slot_of layout q) ≡ None) → is_empty_from layout left place records ≡ true
+all_empty layout zero place records none = is_empty_from-none_left layout place records
+all_empty layout (suc left) place records none =
+    is_empty_from-more layout (suc left) left place records (omega arith) (none place (omega arith) (omega arith))
+    ∙ all_empty layout left (place + 1) records (λ q above below. none q (omega arith) (omega arith))
+
+-- a record at one of the slots from a place on
+record Behind {A : Type 0} (layout : Layout A) (left place : ℕ) (records : Records) : Type 0 where
+  later : ℕ
+  after : place ≤ later
+  within : later < place + left
+  there : IsSome (get records (slot_of layout later))
+
+some_behind : {A : Type 0} (layout : Layout A) (left place : ℕ) (records : Records) → is_empty_from layout left place records ≡ false
+    → Behind layout left place records
+some_behind layout zero place records e = let none = is_empty_from-none_left layout place records in absurd (cc (e, none))
+some_behind layout (suc left) place records e = by_record (get records (slot_of layout place)) refl (some_behind layout left (place + 1) records)
+  where
+    by_record : (o : Option (List ℕ)) → get records (slot_of layout place) ≡ o
+        → (is_empty_from layout left (place + 1) records ≡ false → Behind layout left (place + 1) records) → Behind layout (suc left) place records
+    by_record (Some octets) is later = record { later = place; after = omega arith; within = omega arith; there = rw is refl }
+    by_record None is later =
+        let more = later (sym (is_empty_from-more layout (suc left) left place records (omega arith) is) ∙ e) in
+        record { later = more.later; after = omega (arith, more.after); within = omega (arith, more.within); there = more.there }
+
+-- # The same records
+
+is_empty_from-same : {A : Type 0} (layout : Layout A) (left place : ℕ) (old new : Records)
+    → ((q : ℕ) → get new (slot_of layout q) ≡ get old (slot_of layout q))
+    → is_empty_from layout left place new ≡ is_empty_from layout left place old
+unfolding is_empty_from
+is_empty_from-same layout zero place old new same = refl
+is_empty_from-same layout (suc left) place old new same =
+    ap (λ o. option_map_or (λ _. false) o (is_empty_from layout left (place + 1) new)) (same place)
+    ∙ ap (option_map_or (λ _. false) (get old (slot_of layout place))) (is_empty_from-same layout left (place + 1) old new same)
+
+-- where the slots have the records that they had, the table is read as before
+pub opened_from-same : {A : Type 0} (layout : Layout A) (left place : ℕ) (old new : Records) (table : List A)
+    → ((q : ℕ) → get new (slot_of layout q) ≡ get old (slot_of layout q))
+    → opened_from layout left place new table ≡ opened_from layout left place old table
+opened_from-same layout zero place old new table same =
+    opened_from-none_left layout place new table ∙ sym (opened_from-none_left layout place old table)
+opened_from-same {A = A} layout (suc left) place old new table same =
+    by_record (get old (slot_of layout place)) refl (λ next. opened_from-same layout left (place + 1) old new next same)
+  where
+    by_next : (octets : List ℕ) (o : Option (List A)) → get old (slot_of layout place) ≡ Some octets → with_record layout place table octets ≡ o
+        → ((next : List A) → opened_from layout left (place + 1) new next ≡ opened_from layout left (place + 1) old next)
+        → opened_from layout (suc left) place new table ≡ opened_from layout (suc left) place old table
+    by_next octets None is w later =
+        opened_from-damaged layout (suc left) place new table octets (omega arith) (same place ∙ is) w
+        ∙ sym (opened_from-damaged layout (suc left) place old table octets (omega arith) is w)
+    by_next octets (Some next) is w later =
+        opened_from-more layout (suc left) left place new table next octets (omega arith) (same place ∙ is) w
+        ∙ later next
+        ∙ sym (opened_from-more layout (suc left) left place old table next octets (omega arith) is w)
+
+    by_end : (b : Bool) → get old (slot_of layout place) ≡ None → is_empty_from layout left (place + 1) old ≡ b
+        → opened_from layout (suc left) place new table ≡ opened_from layout (suc left) place old table
+    by_end true is b =
+        opened_from-empty layout (suc left) left place new table (omega arith) (same place ∙ is) (is_empty_from-same layout left (place + 1) old new same ∙ b)
+        ∙ sym (opened_from-empty layout (suc left) left place old table (omega arith) is b)
+    by_end false is b =
+        opened_from-lost layout (suc left) left place new table (omega arith) (same place ∙ is) (is_empty_from-same layout left (place + 1) old new same ∙ b)
+        ∙ sym (opened_from-lost layout (suc left) left place old table (omega arith) is b)
+
+    by_record : (o : Option (List ℕ)) → get old (slot_of layout place) ≡ o
+        → ((next : List A) → opened_from layout left (place + 1) new next ≡ opened_from layout left (place + 1) old next)
+        → opened_from layout (suc left) place new table ≡ opened_from layout (suc left) place old table
+    by_record None is later = by_end (is_empty_from layout left (place + 1) old) is refl
+    by_record (Some octets) is later = by_next octets (with_record layout place table octets) is refl later
+
+-- a store without records gives no entry
+pub opened_empty : {A : Type 0} (layout : Layout A) → opened layout empty ≡ Ok []
+opened_empty {A = A} layout = by_slots layout.slots
+  where
+    none : (q : ℕ) → ◌≡◌ {A = Option (List ℕ)} (get {R = nat_cmp} empty (slot_of layout q)) None
+    none q = get-empty nat_cmp (slot_of layout q)
+
+    by_slots : (left : ℕ) → ◌≡◌ {A = Result (List A) BadStore} (opened_from layout left 0 empty []) (Ok [])
+    by_slots zero = opened_from-none_left layout 0 empty []
+    by_slots (suc left) =
+        opened_from-empty layout (suc left) left 0 empty [] (omega arith) (none 0) (all_empty layout left 1 empty (λ q above below. none q))
 
 -- # What an opened table holds
 
@@ -126,49 +272,53 @@ kept_taken layout left place records table last octets (Some next) rests w is e 
     (kept_next layout place table next records octets rests kept len is new)
 
 kept_step : {A : Type 0} (layout : Layout A) (left place : ℕ) (records : Records) (table last : List A) (o : Option (List ℕ)) → ReadsAtRest layout
-    → place ≤ layout.slots
     → get records (slot_of layout place) ≡ o
-    → opened_from layout (suc left) place records table ≡ Ok last → length table ≡ place → IsGapless layout records → KeptBelow layout place table records
+    → opened_from layout (suc left) place records table ≡ Ok last → length table ≡ place → place + suc left ≡ layout.slots
+    → KeptBelow layout place table records
     → ((next : List A) → opened_from layout left (place + 1) records next ≡ Ok last → length next ≡ place + 1 → KeptBelow layout (place + 1) next records
     → IsStored layout last records)
     → IsStored layout last records
-kept_step layout left place records table last (Some octets) rests low is e len gapless kept rest =
+kept_step layout left place records table last (Some octets) rests is e len all kept rest =
     kept_taken layout left place records table last octets _ rests refl is e len kept rest
-kept_step layout left place records table last None rests low is e len gapless kept rest =
-    let empty = opened_from-empty layout (suc left) place records table is in
-    let same : table ≡ last = cc in
-    subst (λ t. IsStored layout t records) same (record {
-      short = omega arith;
-      each = λ q h. elim (cases_lt q place) [
-        | inl lower ↦ kept q lower
-        | inr above ↦ ap (option_map (layout.read q)) (none_at q above h)
-            ∙ sym (ap (option_map (λ p. Some (layout.rest p))) (slice_get_past table q (omega arith)))
-      ];
-    })
+kept_step layout left place records table last None rests is e len all kept rest = by_end (is_empty_from layout left (place + 1) records) refl
   where
-    none_at : (q : ℕ) → place ≤ q → q < layout.slots → get records (slot_of layout q) ≡ None
-    none_at q above h = elim (cases_eq q place) [
+    none_at : is_empty_from layout left (place + 1) records ≡ true → (q : ℕ) → place ≤ q → q < layout.slots → get records (slot_of layout q) ≡ None
+    none_at b q above h = elim (cases_eq q place) [
       | inl here ↦ ap (λ k. get records (slot_of layout k)) here ∙ is
-      | inr other ↦ gapless place q (omega arith) h is
+      | inr other ↦ each_empty layout left (place + 1) records b q (omega arith) (omega (arith, all))
     ]
+
+    by_end : (b : Bool) → is_empty_from layout left (place + 1) records ≡ b → IsStored layout last records
+    by_end false b = let lost = opened_from-lost layout (suc left) left place records table (omega arith) is b in absurd (cc (lost, e))
+    by_end true b =
+        let empty = opened_from-empty layout (suc left) left place records table (omega arith) is b in
+        let same : table ≡ last = cc (empty, e) in
+        subst (λ t. IsStored layout t records) same (record {
+          short = omega (arith, all, len);
+          each = λ q h. elim (cases_lt q place) [
+            | inl lower ↦ kept q lower
+            | inr above ↦ ap (option_map (layout.read q)) (none_at b q above h)
+                ∙ sym (ap (option_map (λ p. Some (layout.rest p))) (slice_get_past table q (omega arith)))
+          ];
+        })
 
 kept_opened : {A : Type 0} (layout : Layout A) (left place : ℕ) (records : Records) (table last : List A) → ReadsAtRest layout
     → opened_from layout left place records table ≡ Ok last → length table ≡ place → place + left ≡ layout.slots
-    → IsGapless layout records → KeptBelow layout place table records → IsStored layout last records
-kept_opened layout zero place records table last rests e len all gapless kept =
+    → KeptBelow layout place table records → IsStored layout last records
+kept_opened layout zero place records table last rests e len all kept =
     let end = opened_from-none_left layout place records table in
     let same : table ≡ last = cc in
     subst (λ t. IsStored layout t records) same (record { short = omega arith; each = λ q h. kept q (omega arith) })
-kept_opened layout (suc left) place records table last rests e len all gapless kept =
-    kept_step layout left place records table last _ rests (omega arith) refl e len gapless kept
-    (λ next e' len' kept'. kept_opened layout left (place + 1) records next last rests e' len' (omega arith) gapless kept')
+kept_opened layout (suc left) place records table last rests e len all kept =
+    kept_step layout left place records table last _ rests refl e len all kept
+    (λ next e' len' kept'. kept_opened layout left (place + 1) records next last rests e' len' (omega arith) kept')
 
--- an opened table is stored, where no record stands after the first empty slot
+-- an opened table is stored
 pub opened_kept : {A : Type 0} (layout : Layout A) (records : Records) (r : Result (List A) BadStore) → ReadsAtRest layout → r ≡ opened layout records
-    → IsGapless layout records → IfOk r (λ table. IsStored layout table records)
-opened_kept layout records (Ok table) rests e gapless =
-    kept_opened layout layout.slots 0 records [] table rests (sym e) refl (omega arith) gapless (λ q h. absurd (omega arith))
-opened_kept layout records (Err bad) rests e gapless = tt
+    → IfOk r (λ table. IsStored layout table records)
+opened_kept layout records (Ok table) rests e =
+    kept_opened layout layout.slots 0 records [] table rests (sym e) refl (omega arith) (λ q h. absurd (omega arith))
+opened_kept layout records (Err bad) rests e = tt
 
 -- an empty store has no gap
 pub empty_gapless : {A : Type 0} (layout : Layout A) (records : Records) → records ≡ empty → IsGapless layout records
@@ -290,7 +440,10 @@ reopened_from layout (suc left) place records table keys h stored all =
       | inl within ↦ reopened_one layout left place records table (slice_get table place) keys h stored all refl within
           (reopened_from layout left (place + 1) records table keys h stored (omega arith))
       | inr past ↦
-          opened_from-empty layout (suc left) place records (at_places layout table place) (none_behind layout table records place stored past (omega arith))
+          opened_from-empty layout (suc left) left place records (at_places layout table place) (omega arith)
+          (none_behind layout table records place stored past (omega arith))
+          (all_empty layout left (place + 1) records (λ q above below.
+          none_behind layout table records q stored (omega (arith, above, past)) (omega (arith, below, all))))
           ∙ ap (λ t. Ok (map layout.rest t)) (take_all place table past)
     ]
 
@@ -383,13 +536,36 @@ reads_step : {A : Type 0} (layout : Layout A) (left place : ℕ) (records : Reco
     → ((next : List A) → opened_from layout left (place + 1) records next ≡ r → IsReadBelow layout (place + 1) next records → Reads layout records r)
     → Reads layout records r
 unfolding Reads
-reads_step layout left place records table r None is e all below rest =
-    let empty = opened_from-empty layout (suc left) place records table is in
-    subst (λ r. MatchResult r (λ table. IsReading layout table records) (λ bad. IsBad layout records bad.slot)) (sym empty ∙ e) (record {
-      sound = below.sound;
-      each = λ q h. below.each q (omega (arith, below.count));
-      ended = λ h. ap (λ k. get records (slot_of layout k)) below.count ∙ is;
-    })
+reads_step {A = A} layout left place records table r None is e all below rest = by_end (is_empty_from layout left (place + 1) records) refl
+  where
+    by_end : (b : Bool) → is_empty_from layout left (place + 1) records ≡ b
+        → MatchResult r (λ table. IsReading layout table records) (λ bad. IsBad layout records bad.slot)
+    by_end true b =
+        let empty = opened_from-empty layout (suc left) left place records table (omega arith) is b in
+        subst (λ r. MatchResult r (λ table. IsReading layout table records) (λ bad. IsBad layout records bad.slot)) (sym empty ∙ e) (record {
+          sound = below.sound;
+          each = λ q h. below.each q (omega (arith, below.count));
+          ended = λ q past h. elim (cases_eq q place) [
+            | inl here ↦ ap (λ k. get records (slot_of layout k)) here ∙ is
+            | inr other ↦ each_empty layout left (place + 1) records b q (omega (arith, below.count)) (omega (arith, all))
+          ];
+        })
+    by_end false b =
+        let lost = opened_from-lost layout (suc left) left place records table (omega arith) is b in
+        let behind = some_behind layout left (place + 1) records b in
+        subst (λ r. MatchResult r (λ table. IsReading layout table records) (λ bad. IsBad layout records bad.slot)) (sym lost ∙ e) (record {
+          place = place;
+          within = omega (arith, all);
+          here = refl;
+          reached = below.there;
+          wrong = inr (record {
+            empty = is;
+            later = behind.later;
+            after = omega (arith, behind.after);
+            within = omega (arith, behind.within, all);
+            behind = behind.there;
+          });
+        })
 reads_step {A = A} layout left place records table r (Some octets) is e all below rest = go (with_record layout place table octets) refl
   where
     go : (o : Option (List A)) → with_record layout place table octets ≡ o
@@ -400,8 +576,8 @@ reads_step {A = A} layout left place records table r (Some octets) is e all belo
           place = place;
           within = omega arith;
           here = refl;
-          reached = up_to layout place table records octets below is;
-          damaged = bad_record layout place table records octets below is w;
+          reached = below.there;
+          wrong = inl (record { there = rw is refl; why = bad_record layout place table records octets below is w });
         })
     go (Some next) w =
         let more = opened_from-more layout (suc left) left place records table next octets (omega arith) is w in
@@ -415,7 +591,7 @@ reads_from layout zero place records table r e all below =
     subst (λ r. MatchResult r (λ table. IsReading layout table records) (λ bad. IsBad layout records bad.slot)) (sym end ∙ e) (record {
       sound = below.sound;
       each = λ q h. below.each q (omega (arith, below.count));
-      ended = λ h. absurd (omega (arith, below.count));
+      ended = λ q past h. absurd (omega (arith, below.count));
     })
 reads_from layout (suc left) place records table r e all below =
     reads_step layout left place records table r _ refl e all below
@@ -435,7 +611,7 @@ opened_reads layout records r e = reads_from layout layout.slots 0 records [] r 
 -- what a table that was read again holds
 pub reloaded : {A : Type 0} (layout : Layout A) (records : Records) (r : Result (Unit {0}) BadStore) (t : List A) → ReadsAtRest layout
     → ((e : A) → layout.key (layout.rest e) ≡ layout.key e) → read_into r t ≡ opened layout records
-    → OnOk r (IsReading layout t records) × (IsGapless layout records → OnOk r (IsStored layout t records))
+    → OnOk r (IsReading layout t records) × OnOk r (IsStored layout t records)
     × ((table : List A) → IsTable layout table → IsStored layout table records → (r ≡ Ok tt) × (t ≡ map layout.rest table))
     × IfErr r (λ bad. IsBad layout records bad.slot)
 reloaded {A = A} layout records (Ok u) t rests keys e = (
@@ -449,7 +625,7 @@ reloaded {A = A} layout records (Ok u) t rests keys e = (
     ok_is a b same = cc
 reloaded {A = A} layout records (Err bad) t rests keys e = (
   tt,
-  λ gapless. tt,
+  tt,
   λ table h k. absurd (never (map layout.rest table) (e ∙ reopened layout records table keys h k)),
   opened_reads layout records (Err bad) e,
 )

@@ -1,6 +1,7 @@
--- A table whose entries stand in a row of slots, read from the first slot to the first empty one.
+-- A table whose entries stand in a row of slots, read from the first slot to the first empty one, behind which no record may
+-- stand.
 use Rattle.std.specs.Prelude.{◌≡◌, ◌≢◌, ◌⊎◌, ℕ, zero, suc, ◌+◌, ◌-◌, ◌<◌, ◌≤◌, ◌==◌, Bool, List, [], ◌∷◌, ◌++◌, length, map, slice_get, position, is_some}
-use Rattle.std.specs.Prelude.{if◌then◌else◌, AllPairs, Option, Some, None, Result, Ok, Err, IfSome, IsSome}
+use Rattle.std.specs.Prelude.{true, false, if◌then◌else◌, AllPairs, Option, Some, None, Result, Ok, Err, IfSome, IsSome}
 use Rattle.std.specs.Option.{option_map, option_map_or, option_and_then}
 use Rattle.std.specs.FinMap.{get}
 use Rattle.plc_base.specs.declared.keeper.BadStore.{BadStore}
@@ -80,14 +81,22 @@ with_record layout place table octets =
     then None else Some (table ++ entry ∷ []))
     (layout.read place octets) None
 
--- what the records give from a place on, up to the first empty slot, after the table so far
+-- whether no record stands at this many slots from a place on
+unfoldable pub is_empty_from : {A : Type 0} → Layout A → ℕ → ℕ → Records → Bool
+is_empty_from layout zero place records = true
+is_empty_from layout (suc left) place records =
+    option_map_or (λ _. false) (get records (slot_of layout place)) (is_empty_from layout left (place + 1) records)
+
+-- What the records give from a place on, up to the first empty slot, after the table so far. Where a record stands behind
+-- that slot, the slot's own record was lost.
 unfoldable pub opened_from : {A : Type 0} → Layout A → ℕ → ℕ → Records → List A → Result (List A) BadStore
 opened_from layout zero place records table = Ok table
 opened_from layout (suc left) place records table =
     option_map_or
     (λ octets. option_map_or (λ next. opened_from layout left (place + 1) records next)
     (with_record layout place table octets) (Err (record { slot = slot_of layout place })))
-    (get records (slot_of layout place)) (Ok table)
+    (get records (slot_of layout place))
+    (if is_empty_from layout left (place + 1) records then Ok table else Err (record { slot = slot_of layout place }))
 
 -- the table that the records give
 abbrev pub opened : {A : Type 0} → Layout A → Records → Result (List A) BadStore
@@ -121,11 +130,11 @@ pub record IsTableOf {A : Type 0} (layout : Layout A) (room : ℕ) (table : List
 abbrev pub entry_at : {A : Type 0} → Layout A → Records → ℕ → Option A
 entry_at layout records place = option_and_then (layout.read place) (get records (slot_of layout place))
 
--- The table has the entry of each record from the first slot to the first empty one.
+-- The table has the entry of each record, and no record stands after them.
 pub record IsReading {A : Type 0} (layout : Layout A) (table : List A) (records : Records) : Type 0 where
   pub sound : IsTable layout table
   pub each : (place : ℕ) → place < length table → entry_at layout records place ≡ slice_get table place
-  pub ended : length table < layout.slots → get records (slot_of layout (length table)) ≡ None
+  pub ended : (place : ℕ) → length table ≤ place → place < layout.slots → get records (slot_of layout place) ≡ None
 
 -- a record before this one gives an entry of the same key
 pub record IsSecond {A : Type 0} (layout : Layout A) (records : Records) (place : ℕ) : Type 0 where
@@ -135,10 +144,23 @@ pub record IsSecond {A : Type 0} (layout : Layout A) (records : Records) (place 
   pub same : option_map layout.key (entry_at layout records earlier)
       ≡ option_map layout.key (entry_at layout records place)
 
--- The record at a slot has no reading, or is a second one of a key, and no empty slot stands before it.
+-- the record at a place has no reading, or is a second one of a key
+pub record IsDamaged {A : Type 0} (layout : Layout A) (records : Records) (place : ℕ) : Type 0 where
+  pub there : IsSome (get records (slot_of layout place))
+  pub why : (entry_at layout records place ≡ None) ⊎ IsSecond layout records place
+
+-- the slot of a place is empty, and a record stands behind it
+pub record IsLost {A : Type 0} (layout : Layout A) (records : Records) (place : ℕ) : Type 0 where
+  pub empty : get records (slot_of layout place) ≡ None
+  pub later : ℕ
+  pub after : place < later
+  pub within : later < layout.slots
+  pub behind : IsSome (get records (slot_of layout later))
+
+-- The record at a slot has no reading, is a second one of a key, or was lost; and no empty slot stands before it.
 pub record IsBad {A : Type 0} (layout : Layout A) (records : Records) (slot : ℕ) : Type 0 where
   pub place : ℕ
   pub within : place < layout.slots
   pub here : slot ≡ slot_of layout place
-  pub reached : (q : ℕ) → q ≤ place → IsSome (get records (slot_of layout q))
-  pub damaged : (entry_at layout records place ≡ None) ⊎ IsSecond layout records place
+  pub reached : (q : ℕ) → q < place → IsSome (get records (slot_of layout q))
+  pub wrong : IsDamaged layout records place ⊎ IsLost layout records place

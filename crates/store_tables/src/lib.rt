@@ -7,8 +7,8 @@
 //!
 //! What its calls promise, by the names of their clauses:
 //!
-//! - A table, a numbering or a number is what the records give (`table`, `reading`, `numbering`, `number`). BadStore names a
-//!   record that has no reading (`bad`).
+//! - A table, a numbering or a number is what the records give (`table`, `reading`, `numbering`, `number`). BadStore names the
+//!   slot of a record that has no reading, or of a table's that was lost (`bad`).
 //! - After a failed put the value is the one before (`same`), the records give the old or the new one (`either`), and the slots
 //!   of others are as they were (`elsewhere`). The value may not be used again until it is opened again.
 //! - What is true of puts in a row and of the sorted keys of a table is a law (`laws`).

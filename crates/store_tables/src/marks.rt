@@ -1,7 +1,7 @@
 //! A table of marks by address: the number that was last admitted of each.
 ghost use Rattle.std.specs.Prelude.{◌≡◌, [], true, is_ok, IfOk, IfErr, OnOk, OnErr};
 ghost use Rattle.plc_base.specs.Keeper.{Stores, OutsideStays, IsOldOrNew};
-ghost use Rattle.store_tables.specs.SlotTables.{IsTable, IsGapless, IsReading, IsBad, Reopens, ReopensInto, last_of, opened, read_into};
+ghost use Rattle.store_tables.specs.SlotTables.{IsTable, IsReading, IsBad, Reopens, ReopensInto, last_of, opened, read_into};
 ghost use Rattle.store_tables.specs.OpenFaults.{IsOpened, IsFault};
 ghost use Rattle.store_tables.specs.Marks.{layout, slots_of, AgreesWith, IsCovered, mark_ahead, mark_of, has_room, room_for, keep_write, kept_after};
 
@@ -116,14 +116,13 @@ impl<const FIRST: u32, const SLOTS: usize> MarkTable<FIRST, SLOTS> {
     /// called where `new` may be.
     ///
     /// Memory where there is none for `SLOTS` marks. BadStore exactly where one of these records has not 6 octets, has an address above
-    /// FFFD, or is a second one of an address. After either no memory is held.
+    /// FFFD, or is a second one of an address, or a record stands behind the first empty slot. After either no memory is held.
     pub fn open<K: Keeper>(alloc: Global, keeper: &K) -> Result<MarkTable<FIRST, SLOTS>, OpenFault>
         requires { SLOTS ≡ slots_of FIRST SLOTS }
         ensures table { IsOpened result (opened (layout FIRST SLOTS) (K.store keeper.now).records) }
         ensures reading { IfOk result (λ table. IsReading (layout FIRST SLOTS) table (K.store keeper.now).records) }
         ensures bad { IfErr result (IsFault (IsBad (layout FIRST SLOTS) (K.store keeper.now).records)) }
-        ensures kept { IsGapless (layout FIRST SLOTS) (K.store keeper.now).records
-            → IfOk result (λ table. AgreesWith FIRST SLOTS table (K.store keeper.now).records) }
+        ensures kept { IfOk result (λ table. AgreesWith FIRST SLOTS table (K.store keeper.now).records) }
         // Marks that were kept are opened again, each at its stored mark.
         ensures reopened { Reopens (layout FIRST SLOTS) (K.store keeper.now).records result }
     {
@@ -137,8 +136,7 @@ impl<const FIRST: u32, const SLOTS: usize> MarkTable<FIRST, SLOTS> {
         ensures reading { OnOk result (IsReading (layout FIRST SLOTS) self.new (K.store keeper.now).records) }
         ensures bad { IfErr result (λ bad. IsBad (layout FIRST SLOTS) (K.store keeper.now).records bad.slot) }
         ensures none { OnErr result (self.new ≡ []) }
-        ensures kept { IsGapless (layout FIRST SLOTS) (K.store keeper.now).records
-            → OnOk result (AgreesWith FIRST SLOTS self.new (K.store keeper.now).records) }
+        ensures kept { OnOk result (AgreesWith FIRST SLOTS self.new (K.store keeper.now).records) }
         // Marks that were kept are opened again, each at its stored mark.
         ensures reopened { ReopensInto (layout FIRST SLOTS) (K.store keeper.now).records result self.new }
     {

@@ -11,7 +11,7 @@ pub enum OpenFault {
     /// There is no memory for it.
     #[error("out of memory")]
     Memory,
-    /// A record of it has no reading.
+    /// A record of it has no reading, or was lost: a later one is there.
     #[error("{0}")]
     BadStore(BadStore),
 }

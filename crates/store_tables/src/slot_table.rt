@@ -1,10 +1,10 @@
 //! A table whose entries stand in a row of slots of a keeper.
-ghost use Rattle.std.specs.Prelude.{◌≡◌, ◌==◌, ◌<◌, ◌≤◌, ◌+◌, ◌∷◌, ◌++◌, [], List, length, set, is_ok, is_some, slice_get, IsTrue, IfSome, MatchOption};
+ghost use Rattle.std.specs.Prelude.{◌≡◌, ◌==◌, ◌<◌, ◌≤◌, ◌+◌, ◌-◌, ◌∷◌, ◌++◌, [], List, length, set, is_ok, is_some, slice_get, IsTrue, IfSome, MatchOption};
 ghost use Rattle.std.specs.Prelude.{IfOk, IfErr, OnOk, OnErr, Some, Ok};
 ghost use Rattle.std.specs.Prelude.{ℕ};
 ghost use Rattle.plc_base.specs.Keeper.{IsSlot, Records, Puts, Stores, OutsideStays, IsOldOrNew};
-ghost use Rattle.store_tables.specs.SlotTables.{Layout, slot_of, IsTable, IsFree, IsStored, IsGapless, IsReading, IsBad, Reopens, ReopensInto, place_of};
-ghost use Rattle.store_tables.specs.SlotTables.{entry_of, entry_write, last_of, opened, read_into};
+ghost use Rattle.store_tables.specs.SlotTables.{Layout, slot_of, IsTable, IsFree, IsStored, IsReading, IsBad, Reopens, ReopensInto, place_of};
+ghost use Rattle.store_tables.specs.SlotTables.{entry_of, entry_write, is_empty_from, last_of, opened, read_into};
 ghost use Rattle.store_tables.specs.OpenFaults.{IsOpened, IsFault};
 
 use crate::slot_order::SlotOrder;
@@ -81,17 +81,17 @@ impl<E: SlotEntry, const N: usize> SlotTable<E, N> {
         Ok(SlotTable { entries, order })
     }
 
-    /// The table that the keeper's records give, from the first slot to the first empty one.
+    /// The table that the keeper's records give, from the first slot to the first empty one. All `N` slots are read.
     ///
-    /// Memory where there is none for `N` entries. BadStore exactly where one of these records has no reading or is a second one of a key.
-    /// After either no memory is held.
+    /// Memory where there is none for `N` entries. BadStore exactly where one of these records has no reading or is a second one of a key,
+    /// or a record stands behind the first empty slot, which then is the slot of the fault: its record was lost. After either no memory is
+    /// held.
     pub fn open<K: Keeper>(alloc: Global, keeper: &K) -> Result<SlotTable<E, N>, OpenFault>
         requires { N ≡ E.layout.slots }
         ensures table { IsOpened result (opened E.layout (K.store keeper.now).records) }
         ensures reading { IfOk result (λ table. IsReading E.layout table (K.store keeper.now).records) }
         ensures bad { IfErr result (IsFault (IsBad E.layout (K.store keeper.now).records)) }
-        ensures kept { IsGapless E.layout (K.store keeper.now).records
-            → IfOk result (λ table. IsStored E.layout table (K.store keeper.now).records) }
+        ensures kept { IfOk result (λ table. IsStored E.layout table (K.store keeper.now).records) }
         // A table that was stored is opened again, each entry at rest.
         ensures reopened { Reopens E.layout (K.store keeper.now).records result }
     {
@@ -106,8 +106,7 @@ impl<E: SlotEntry, const N: usize> SlotTable<E, N> {
         ensures reading { OnOk result (IsReading E.layout self.new (K.store keeper.now).records) }
         ensures bad { IfErr result (λ bad. IsBad E.layout (K.store keeper.now).records bad.slot) }
         ensures none { OnErr result (self.new ≡ []) }
-        ensures kept { IsGapless E.layout (K.store keeper.now).records
-            → OnOk result (IsStored E.layout self.new (K.store keeper.now).records) }
+        ensures kept { OnOk result (IsStored E.layout self.new (K.store keeper.now).records) }
         ensures reopened { ReopensInto E.layout (K.store keeper.now).records result self.new }
     {
         // Shows the check what the table holds.
@@ -259,7 +258,11 @@ impl<E: SlotEntry, const N: usize> SlotTable<E, N> {
         for place in 0..N {
             let slot = E::slot(place);
             let Some(octets) = keeper.get(slot) else {
-                break;
+                if Self::is_empty_behind(keeper, place) {
+                    break;
+                }
+                // The record of this slot was lost.
+                return Err(BadStore { slot });
             };
             let Some(entry) = E::read(place, octets.octets()) else {
                 return Err(BadStore { slot });
@@ -270,6 +273,20 @@ impl<E: SlotEntry, const N: usize> SlotTable<E, N> {
             self.push(entry);
         }
         Ok(())
+    }
+
+    // Whether no record stands behind a place.
+    fn is_empty_behind<K: Keeper>(keeper: &K, place: usize) -> bool
+        requires slots { N ≡ E.layout.slots }
+        requires within { place < E.layout.slots }
+        ensures { result ≡ is_empty_from E.layout (E.layout.slots - (place + 1)) (place + 1) (K.store keeper.now).records }
+    {
+        for later in place + 1..N {
+            if keeper.get(E::slot(later)).is_some() {
+                return false;
+            }
+        }
+        true
     }
 
     // Holds an entry of a new key after the others.

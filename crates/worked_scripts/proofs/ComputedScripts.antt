@@ -48,7 +48,7 @@ use Rattle.line_rules.specs.Further as line_further
 unfoldable pub fields : Unit {0}
 unfolding fields_faults.cut_off fields_faults.address_fault fields_fields.after fields_fields.octet
     fields_fields.two fields_fields.four fields_fields.little_two fields_fields.little_four fields_fields.part
-    fields_cells.slot_at fields_cells.records_in fields_slot_tables.opened_from
+    fields_cells.slot_at fields_cells.records_in fields_slot_tables.opened_from fields_slot_tables.is_empty_from
 fields = tt
 
 -- MAC frames

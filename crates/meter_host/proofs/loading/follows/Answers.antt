@@ -1,5 +1,5 @@
 use Rattle.std.proofs.Common.{arith}
-use Rattle.meter_host.proofs.Gaps.{slot_before}
+use Rattle.meter_host.proofs.LoadedSlots.{slot_before}
 use Rattle.meter_host.proofs.loading.follows.Goals as goal
 
 pub get-requires : goal.get-requires

@@ -1,4 +1,4 @@
-use Rattle.meter_host.proofs.Gaps.{same_list}
+use Rattle.meter_host.proofs.LoadedSlots.{same_list}
 use Rattle.meter_host.proofs.serving.take_in.Goals as goal
 
 pub returns-then-kind-eq-LOAD-clause-none : goal.returns-then-kind-eq-LOAD-clause-none

@@ -37,12 +37,15 @@ fn another_address_stays() {
 })
 }
 
-// Two slots whose records have no reading, and the one that is named.
-const BAD: [(u32, u32, u32); 4] = [
+// Two slots whose records have no reading, or come after an empty slot of their table, and the slot that is named.
+const BAD: [(u32, u32, u32); 7] = [
     (0x1000, 0x1001, 0x1000),
     (0x1000, 0x0100, 0x0100),
     (0x0200, 0x0100, 0x0200),
     (2, 1, 1),
+    (0x1002, 0x1001, 0x1000),
+    (0x0101, 0x0202, 0x0200),
+    (0x1001, 0x0101, 0x0100),
 ];
 
 #[test]

@@ -3,7 +3,7 @@
 use std::dialect::*;
 
 use frame_counters::{PeerMarks, SendCounter};
-use plc_base::{Keeper, MemKeeper, Record, Short};
+use plc_base::{BadStore, Keeper, MemKeeper, Record, Short};
 use std::test::Fail;
 use store_tables::OpenFault;
 
@@ -70,13 +70,28 @@ fn a_peer_has_an_address_and_a_mark() {
 })
 }
 
+// The slots of two records, and the first empty slot before one of them.
+const LOST: [(u32, u32, u32); 4] = [
+    (0x0100, 0x0102, 0x0101),
+    (0x0101, 0x0102, 0x0100),
+    (0x0101, 0x013F, 0x0100),
+    (0x0100, 0x013F, 0x0101),
+];
+
 #[test]
-fn a_table_ends_at_the_first_empty_slot() {
+fn a_lost_record_is_named() {
     std::test::check(|rt: HostRuntime| -> Result<(), Fail> {
-    let mut keeper = MemKeeper::new(rt.alloc())?;
-    assert!(rt; keeper.put(0x0101, &Record::from_octets(&[7])).is_ok());
-    let marks = PeerMarks::open(rt.alloc(), &keeper)?;
-    assert_eq!(rt; marks.senders().len(), 0);
+    for (one, other, lost) in LOST {
+        let mut keeper = MemKeeper::new(rt.alloc())?;
+        let first = Record::from_octets(&[0, 1, 0, 0, 0, 9]);
+        let second = Record::from_octets(&[0, 2, 0, 0, 0, 9]);
+        assert!(rt; keeper.put(one, &first).is_ok());
+        assert!(rt; keeper.put(other, &second).is_ok());
+        let Err(fault) = PeerMarks::open(rt.alloc(), &keeper) else {
+            return Err(Fail::from("opened"));
+        };
+        assert_eq!(rt; fault, OpenFault::BadStore(BadStore { slot: lost }));
+    }
     Ok(())
 })
 }

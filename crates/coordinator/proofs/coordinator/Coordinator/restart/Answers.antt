@@ -6,6 +6,6 @@ use Rattle.coordinator.proofs.Restarts.{unread_holds}
 use Rattle.coordinator.proofs.coordinator.Coordinator.restart.Goals as goal
 
 pub returns-in_err-restart-clause-holds : goal.returns-in_err-restart-clause-holds
-returns-in_err-restart-clause-holds g c _ _ _ _ =
+returns-in_err-restart-clause-holds g c _ =
     unread_holds c.self.inside.station.store.records _ c.restart.new.self.memory _ _ c.in_err-restart.ensures.answer
     (ap (λ (s : State StationMemory). s.memory) c.restart.ensures.state)

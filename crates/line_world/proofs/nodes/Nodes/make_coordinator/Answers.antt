@@ -1,5 +1,5 @@
 -- The coordinator is made.
-use Rattle.line_world.proofs.NewCoordinators.{made, made_sound, may_begin, no_gaps}
+use Rattle.line_world.proofs.NewCoordinators.{made, made_sound, may_begin}
 use Rattle.line_world.proofs.NewMeters.{first_node}
 use Rattle.line_world.proofs.nodes.Nodes.make_coordinator.Goals as goal
 
@@ -10,11 +10,10 @@ returns-clause-ok c =
 
 pub invariant_of-self : goal.invariant_of-self
 invariant_of-self c =
-    let gaps = no_gaps c.in_ok-keeper.keeper c.args.eui c.args.key.now c.in-Ok.coordinator c.in_ok-keeper.ensures in
     let may = may_begin c.in_ok-keeper.keeper c.args.eui c.args.key.now c.in-Ok.coordinator c.in_ok-keeper.ensures in
     record {
       coordinator = made_sound c.in_ok-keeper.keeper c.args.eui c.args.key.now c.in-Ok.coordinator c.in_ok-keeper.ensures
-          c.in-Ok.ensures.opened c.in-Ok.ensures.running (c.in-Ok.ensures.holds gaps.marks gaps.ranks gaps.entries may);
+          c.in-Ok.ensures.opened c.in-Ok.ensures.running (c.in-Ok.ensures.holds may);
       meters = c.self.invariant.meters;
       begun = tt;
     }

@@ -24,7 +24,7 @@ invariant_of-self c =
     let sound = sound_at at in
     sound_with at c.restart.new.self
     (meters.stored_sound c.index_mut.result.now c.restart.new.self sound c.restart.ensures.store
-    (c.restart.ensures.agrees sound.tables.marks sound.tables.ranks))
+    c.restart.ensures.agrees)
 
 pub returns : goal.returns
 returns c =
@@ -41,4 +41,4 @@ invariant_of-self-2 c =
     let sound = its_sound at in
     its_sound_with at c.restart-2.new.self
     (coordinators.stored_sound c.in-Some.coordinator c.restart-2.new.self sound c.restart-2.ensures.store
-    (c.restart-2.ensures.holds sound.tables.marks sound.tables.ranks sound.tables.entries sound.home))
+    (c.restart-2.ensures.holds sound.home))
