@@ -1,12 +1,7 @@
--- What an agent makes of the joining messages that it carries.
-use Rattle.std.specs.Prelude.{ℕ, Bool, true, false, List, ◌∷◌}
-use Rattle.plc_base.specs.declared.address.TheConstants.{PAN}
-use Rattle.mac_frames.specs.declared.head.MacHead.TheVariants as heads
-use Rattle.mac_frames.specs.Grammar.{header_then}
-use Rattle.joining_messages.specs.declared.message.JoinMessage.{JoinMessage}
+-- Which joining messages an agent carries, and which way.
+use Rattle.std.specs.Prelude.{Bool, true, false}
 use Rattle.joining_messages.specs.declared.message.JoinBody.{JoinBody}
 use Rattle.joining_messages.specs.declared.message.JoinBody.TheVariants.{Join, Accept, Challenge, Decline, Kick, Activate}
-use Rattle.joining_messages.specs.Messages.{spelling}
 
 -- whether an agent carries a body up: a node's JOIN
 abbrev pub goes_up : JoinBody → Bool
@@ -25,11 +20,3 @@ goes_down (Challenge eap) = true
 goes_down Decline = true
 goes_down Kick = false
 goes_down (Activate index) = false
-
--- the body of the command that carries a message: the code 02 and the message
-abbrev pub command_up : JoinMessage → List ℕ
-command_up message = 2 ∷ spelling message
-
--- the plain frame of a message to its node, from the agent's address: version 1, sequence 0, an acknowledgement asked for
-abbrev pub frame_down : JoinMessage → ℕ → List ℕ
-frame_down message agent = header_then (heads.Down true 1 0 PAN message.eui agent) (0x40 ∷ (2 ∷ spelling message))

@@ -4,7 +4,8 @@ use Rattle.std.specs.Prelude.{if◌then◌else◌, nat_le, nat_lt}
 use Rattle.std.specs.Fmt.{decimal}
 use Rattle.hex.specs.Hex.{encode_lower}
 use Rattle.sentence_parts.specs.declared.part.Part.TheVariants.{Words, Number}
-use Rattle.sentence_parts.specs.Parts.{is_printable, parts_text}
+use Rattle.sentence_parts.specs.Parts.{parts_text}
+use Rattle.text_signs.specs.Quotes.{is_printable}
 use Rattle.script_faults.specs.declared.finding.Cut.{Cut}
 use Rattle.script_faults.specs.Findings.{FindingParts}
 

@@ -4,7 +4,7 @@ ghost use Rattle.sentence_parts.specs.Parts.{parts_text};
 ghost use Rattle.script_faults.specs.Findings as spec_findings;
 ghost use Rattle.script_faults.specs.Texts as texts;
 
-use sentence_parts::{Part, decimal_width, is_printable, number, push_parts, sentence, words};
+use sentence_parts::{Part, decimal_width, number, push_parts, sentence, words};
 use std::alloc::{AllocError, Global};
 use std::marker::Model;
 

@@ -1,8 +1,9 @@
 -- Sentences, put together from words, numbers and nodes.
-use Rattle.std.specs.Prelude.{ℕ, ◌==◌, ◌&&◌, Bool, List, [], ◌∷◌, ◌++◌, codes, if◌then◌else◌, nat_le, nat_lt}
+use Rattle.std.specs.Prelude.{ℕ, ◌==◌, List, [], ◌∷◌, ◌++◌, codes, if◌then◌else◌}
 use Rattle.std.specs.Fmt.{decimal}
 use Rattle.hex.specs.Hex.{encode_lower}
 use Rattle.frame_facts.specs.Words.{short_word}
+use Rattle.text_signs.specs.Quotes.{octets_text}
 use Rattle.sentence_parts.specs.declared.part.Who.{Who}
 use Rattle.sentence_parts.specs.declared.part.Who.TheVariants as whos
 use Rattle.sentence_parts.specs.declared.part.Part.{Part}
@@ -21,20 +22,6 @@ who_text (whos.Node node) = node_text node
 who_text (whos.Address address) = short_word address
 who_text (whos.Device eui) = codes "EUI " ++ encode_lower eui.0
 who_text whos.Nobody = codes "?"
-
--- # Octets of a script
-
--- a printable character of ASCII
-abbrev pub is_printable : ℕ → Bool
-is_printable octet = nat_le 32 octet && nat_lt octet 127
-
--- any other octet by its digits
-abbrev pub octet_text : ℕ → List ℕ
-octet_text octet = if is_printable octet then octet ∷ [] else codes "\\x" ++ encode_lower (octet ∷ [])
-
-abbrev pub octets_text : List ℕ → List ℕ
-octets_text [] = []
-octets_text (octet ∷ rest) = octet_text octet ++ octets_text rest
 
 -- # Sentences
 

@@ -8,6 +8,7 @@ use itoa::Buffer;
 use plc_base::{Eui, OctetRef};
 use std::alloc::{AllocError, Global};
 use std::marker::Model;
+use text_signs::push_octets;
 
 /// Whom a frame is for, or from, or which node has an address.
 #[derive(Clone, Copy)]
@@ -152,32 +153,6 @@ fn push_place(text: &mut String, alloc: Global, who: Who) -> Result<(), AllocErr
         Who::Device { eui } => push_device(text, alloc, eui),
         Who::Nobody => text.push_str("?"),
     }
-}
-
-/// Whether an octet is a printable character of ASCII.
-pub fn is_printable(octet: u8) -> bool
-    ensures { result ≡ spec_parts.is_printable octet }
-{
-    octet >= 32 && octet < 127
-}
-
-fn push_octet(text: &mut String, alloc: Global, octet: u8) -> Result<(), AllocError>
-    ensures { OnOk result (string_bytes text.new ≡ string_bytes text.old ++ spec_parts.octet_text octet) }
-{
-    if is_printable(octet) {
-        return text.push(char::from(octet));
-    }
-    text.push_str("\\x")?;
-    push_hex(text, alloc, &[octet])
-}
-
-fn push_octets(text: &mut String, alloc: Global, octets: &[u8]) -> Result<(), AllocError>
-    ensures { OnOk result (string_bytes text.new ≡ string_bytes text.old ++ spec_parts.octets_text octets.now) }
-{
-    for octet in octets {
-        push_octet(text, alloc, *octet)?;
-    }
-    Ok(())
 }
 
 pub(crate) fn push_part(text: &mut String, alloc: Global, part: &Part<'_>) -> Result<(), AllocError>
