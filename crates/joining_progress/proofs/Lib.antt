@@ -10,4 +10,5 @@ mod Courses
 mod AirJoinings
 mod Commands
 mod AgentSteps
+mod AgentEvents
 mod AgentJoinings

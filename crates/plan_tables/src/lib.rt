@@ -7,9 +7,9 @@
 //! - `seconds_of` and `hundredths_of` read times and per cent from octets (`specs/Values.antt`). Times are whole seconds, chances ten-thousandths.
 //! - `place_of` is the line and the column of a key in the text of its table (`specs/TextPlaces.antt`).
 //!
-//! What the clauses of a table promise is that its value is that of the definitions, with the default and the limits of each key, or that the first key
-//! whose value does not fit is the fault (`specs/Tables.antt`, `AirPlans.antt`, `Links.antt`, `Places.antt`, `Incidents.antt`). The rate, the air's settings
-//! and the owner's times are plain values: no other crate of a simulated line is named but `line_place`, whose layouts a place is.
+//! Of each table the clauses promise: it has the value that the definitions give it, with the default and the limits of each key; where a value does not
+//! fit, the fault names the first such key (`specs/Tables.antt`, `AirPlans.antt`, `Links.antt`, `Places.antt`, `Incidents.antt`). The rate, the air's
+//! settings and the owner's times are plain values: no other crate of a simulated line is named but `line_place`, whose layouts a place is.
 //!
 //! The readers of values take no memory.
 #![tactic(auto)]

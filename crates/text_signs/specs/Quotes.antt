@@ -1,5 +1,5 @@
 -- Octets as messages quote them.
-use Rattle.std.specs.Prelude.{ℕ, ◌&&◌, nat_le, nat_lt, List, [], ◌∷◌, ◌++◌, length, min, take, codes, Bool, if◌then◌else◌}
+use Rattle.std.specs.Prelude.{ℕ, ◌&&◌, ◌≡◌, ◌≤◌, nat_le, nat_lt, All, List, [], ◌∷◌, ◌++◌, length, min, take, codes, Bool, true, if◌then◌else◌}
 use Rattle.hex.specs.Hex.{encode_lower}
 use Rattle.text_signs.specs.declared.quotes.TheConstants.{MOST_QUOTED}
 
@@ -21,3 +21,7 @@ dots is_cut = if is_cut then codes ".." else []
 -- the first of them, and two points where there are more
 abbrev pub quoted_text : List ℕ → List ℕ
 quoted_text octets = octets_text (take (min (length octets) MOST_QUOTED) octets) ++ dots (nat_lt MOST_QUOTED (length octets))
+
+-- what a terminal prints as it is, in no more than 258 octets
+abbrev pub IsPlainAndShort : List ℕ → Type 0
+IsPlainAndShort text = All (λ octet. is_printable octet ≡ true) text × (length text ≤ 258)

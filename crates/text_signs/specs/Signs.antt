@@ -1,5 +1,5 @@
 -- Characters that are shown, and what stands for others.
-use Rattle.std.specs.Prelude.{ℕ, ◌==◌, ◌%◌, ◌&&◌, ◌||◌, nat_lt, nat_le, List, Bool, chars, encode_utf8, flat_map, if◌then◌else◌}
+use Rattle.std.specs.Prelude.{ℕ, ◌==◌, ◌%◌, ◌&&◌, ◌||◌, ◌≡◌, nat_lt, nat_le, All, List, Bool, false, chars, encode_utf8, flat_map, if◌then◌else◌}
 use Rattle.std.specs.Str.Lossy.{utf8_lossy}
 
 -- Whether a character is a control character of ASCII or of ISO 8859 (C0, DEL, C1), ends a line or a paragraph (2028, 2029), or says which way a text runs
@@ -23,3 +23,7 @@ sign_text c = encode_utf8 (shown_sign c)
 -- what octets show
 unfoldable pub shown_text : List ℕ → List ℕ
 shown_text octets = flat_map sign_text (chars (utf8_lossy octets))
+
+-- a text with no character that hides, ends a line, acts on a terminal or turns the text round
+abbrev pub HidesNothing : List ℕ → Type 0
+HidesNothing text = All (λ c. is_control c ≡ false) (chars text)

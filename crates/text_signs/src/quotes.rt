@@ -1,6 +1,6 @@
 //! Octets as messages quote them: one line of printable ASCII, and not long.
-ghost use Rattle.std.specs.Prelude.{◌≡◌, ◌++◌, IfOk, OnOk, string_bytes};
-ghost use Rattle.text_signs.specs.Quotes.{is_printable, octet_text, octets_text, dots, quoted_text};
+ghost use Rattle.std.specs.Prelude.{ℕ, ◌≡◌, ◌<◌, ◌++◌, All, IfOk, List, OnOk, string_bytes};
+ghost use Rattle.text_signs.specs.Quotes.{IsPlainAndShort, is_printable, octet_text, octets_text, dots, quoted_text};
 
 use std::alloc::{AllocError, Global};
 
@@ -56,3 +56,8 @@ pub fn quoted(alloc: Global, octets: &[u8]) -> Result<String, AllocError>
     push_dots(&mut text, octets.len() > MOST_QUOTED)?;
     Ok(text)
 }
+
+/// What [`quoted`] makes of any octets is printable ASCII and has at most 258 octets.
+pub fn quotes_are_plain()
+    ensures { (octets : List ℕ) → All (λ octet. octet < 256) octets → IsPlainAndShort (quoted_text octets) }
+{}

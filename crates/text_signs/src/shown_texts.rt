@@ -1,6 +1,6 @@
 //! A text as it is shown.
 ghost use Rattle.std.specs.Prelude.{◌≡◌, ◌++◌, IfOk, OnOk, chars, flat_map, string_bytes};
-ghost use Rattle.text_signs.specs.Signs.{sign_text, shown_text};
+ghost use Rattle.text_signs.specs.Signs.{HidesNothing, sign_text, shown_text};
 
 use crate::signs::shown_sign;
 use std::alloc::{AllocError, Global};
@@ -20,7 +20,8 @@ fn push_shown(text: &mut String, words: &str) -> Result<(), AllocError>
 /// It fails only where memory runs out.
 #[tactic(auto, unfolding(crate::specs::Signs::shown_text))]
 pub fn shown(alloc: Global, octets: &[u8]) -> Result<String, AllocError>
-    ensures { IfOk result (λ text. string_bytes text ≡ shown_text octets.now) }
+    ensures shown { IfOk result (λ text. string_bytes text ≡ shown_text octets.now) }
+    ensures plain { IfOk result (λ text. HidesNothing (string_bytes text)) }
 {
     let words = String::from_utf8_lossy(alloc, octets)?;
     let mut text = String::new(alloc);

@@ -1,0 +1,2 @@
+mod PlainQuotes
+mod ShownSigns
