@@ -164,7 +164,8 @@ module _ (ciphers : Ciphers) (opens : OpensWhatItSeals ciphers) (x : Newcomer) (
     agent_own = record { eui = a.eui; psk = a.psk; ciphers = ciphers }
 
     -- a JOIN of the meter
-    pub agent_up : (eap : List ℕ) → length eap ≤ 128 → frame ≡ Up here x.eui (about (body.Join eap)) → is_own ma.station here ≡ true → (sent : Sent) (left : Memory)
+    pub agent_up : (eap : List ℕ) → length eap ≤ 128 → frame ≡ Up here x.eui (about (body.Join eap)) → is_own ma.station here ≡ true
+        → (sent : Sent) (left : Memory)
         → Gives (meters.hear_join agent_own ma (Air x.eui) (about (body.Join eap)) now) heard.Carried (sent ∷ []) left
         → Next ciphers w (Deliver (place + 1) a.number a.below) answers.Carried None None (At mx left mc a.number sent (count + 1) (place + 1))
     agent_up eap few is own sent left gives =

@@ -1,11 +1,13 @@
 //! What time and broken links end in a station.
-ghost use Rattle.std.specs.Prelude.{◌≡◌, Some, None, Ok, Err, IfSome, IfNone};
+ghost use Rattle.std.specs.Prelude.{◌≡◌, [], Some, None, Ok, Err, IfSome, IfNone};
 ghost use Rattle.std.specs.Option.{option_map};
 ghost use Rattle.node_rules.specs.Calls as calls;
 ghost use Rattle.node_rules.specs.Agreement.{Agrees};
 ghost use Rattle.plc_station.specs.NextEnds as next_ends;
+ghost use Rattle.station_queues.specs.Expiring.{notes_of_expiring};
 
 use crate::station::Station;
+use arrayvec::ArrayVec;
 use node_rules::Halted;
 use plc_base::{Keeper, Short};
 
@@ -33,6 +35,19 @@ impl<K: Keeper + Drop> Station<K> {
         let routes = self.parts.routing.next_end();
         let bodies = self.bodies.next_end();
         end_given(routes.min(bodies))
+    }
+
+    /// The notes of what a [`tick`](Station::tick) at this time gives up, since it has waited for a route for
+    /// [`WAITING_TIME`](fragment_buffers::WAITING_TIME) seconds: of datagrams the note of `send`, of commands 0, in the order in which they
+    /// came. What else waited still waits after the tick. None where it is halted.
+    pub fn expiring(&self, now: u64) -> ArrayVec<u32, 8>
+        ensures halted { self.now.memory ≡ None → result.items ≡ [] }
+        ensures notes { IfSome self.now.memory (λ l. result.items ≡ notes_of_expiring now l.waiting) }
+    {
+        if self.halted {
+            return ArrayVec::new();
+        }
+        self.bodies.expiring(now)
     }
 
     /// Ends the routes by a neighbour, to which the link broke. Halted.

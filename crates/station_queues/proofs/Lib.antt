@@ -4,3 +4,4 @@ pub mod DroppedItems
 pub mod Letters
 pub mod Leaves
 pub mod FirstEnds
+mod ExpiringNotes

@@ -14,6 +14,7 @@ ghost use Rattle.fragment_buffers.specs.WaitingBodies.{waits_for, is_awaited_in,
 ghost use Rattle.station_queues.specs.Sizes.{AreSized};
 ghost use Rattle.station_queues.specs.FirstEnd.{end_by, IsStill};
 ghost use Rattle.station_queues.specs.FirstEnd as ends;
+ghost use Rattle.station_queues.specs.Expiring.{notes_of_expiring, notes_of_old};
 ghost use Rattle.station_queues.specs.Frames.{body_at, frames_of, with_frames};
 ghost use Rattle.plc_base.specs.declared.limits.TheConstants.{GREATEST_COUNTER, LONGEST_DATAGRAM, MOST_FRAMES};
 
@@ -128,6 +129,19 @@ fn first_end(waiting: &ArrayVec<Waiting, 8>, time: u64) -> u64
         end = body.end_by(end);
     }
     end
+}
+
+// The notes of those of the bodies that have waited for the whole time.
+fn notes_of_ended(waiting: &ArrayVec<Waiting, 8>, now: u64) -> ArrayVec<u32, 8>
+    ensures { result.items ≡ notes_of_old now waiting.now.items }
+{
+    let mut notes = ArrayVec::new();
+    for body in waiting.iter() {
+        if !is_within(WAITING_TIME, now, body.since) {
+            notes.push(body.note);
+        }
+    }
+    notes
 }
 
 impl Bodies {
@@ -467,6 +481,13 @@ impl Bodies {
         } → time < result }
     {
         first_end(&self.waiting, self.reassembly.next_end())
+    }
+
+    /// The notes of the bodies that came `WAITING_TIME` ago or before, which [`expire`](Bodies::expire) drops: in the order in which they came.
+    pub fn expiring(&self, now: u64) -> ArrayVec<u32, 8>
+        ensures { result.items ≡ notes_of_expiring now self.now.waiting }
+    {
+        notes_of_ended(&self.waiting, now)
     }
 
     /// Drops the reassemblies that began `REASSEMBLY_TIME` ago or before, and the bodies that came `WAITING_TIME` ago or before.

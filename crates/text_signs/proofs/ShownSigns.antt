@@ -1,5 +1,6 @@
 -- What is shown of any octets hides nothing.
-use Rattle.std.proofs.Common.{◌≡◌, ℕ, ◌==◌, Bool, true, false, ◌||◌, List, [], ◌∷◌, ◌++◌, map, flat_map, chars, encode_utf8, encode_utf8_all, refl, sym, ap, subst, ◌∙◌, All, IsUtf8, if◌then◌else◌}
+use Rattle.std.proofs.Common.{◌≡◌, ℕ, ◌==◌, Bool, true, false, ◌||◌, List, [], ◌∷◌, ◌++◌, map}
+use Rattle.std.proofs.Common.{flat_map, chars, encode_utf8, encode_utf8_all, refl, sym, ap, subst, ◌∙◌, All, IsUtf8, if◌then◌else◌}
 use Rattle.std.proofs.lemmas.Bool.{and_parts}
 use Rattle.std.proofs.lemmas.List.Elements.{All-cons, All-nil}
 use Rattle.std.proofs.lemmas.Str.{chars-encodes, scalars-chars}
