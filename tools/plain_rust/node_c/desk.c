@@ -240,6 +240,19 @@ static void talks(void) {
     check(coordinator_next_end(nodes[0].coordinator, &time) == 0 || time > 0, "the coordinator's");
 }
 
+/* A datagram to nobody waits for a route for 30 seconds. */
+static void gives_up(void) {
+    struct meter *m = nodes[1].meter;
+    uint64_t now = 30000;
+    uint32_t notes[8] = {0};
+    check(meter_send(m, 9, 77, now, (const uint8_t *)"\1", 1) == METER_DONE, "it seeks a route to nobody");
+    deliver(now);
+    check(meter_expiring(m, now + 29, notes) == 0 && notes[0] == 0, "it waits");
+    check(meter_expiring(m, now + 30, notes) == 1 && notes[0] == 77 && meter_expiring(m, now + 30, NULL) == 0, "it is given up");
+    check(meter_tick(m, now + 30) == METER_DONE && meter_expiring(m, now + 30, notes) == 0, "it was given up");
+    check(coordinator_expiring(nodes[0].coordinator, now + 30, notes) == 0, "nothing waits at the coordinator");
+}
+
 /* A frame that is none, or came already; arguments out of their ranges. */
 static void refuses(void) {
     struct meter *m = nodes[1].meter;
@@ -356,6 +369,7 @@ int main(void) {
     joins();
     talks();
     refuses();
+    gives_up();
     takes_randoms();
     loses_power();
     changes_keys();

@@ -95,6 +95,8 @@ int meter_random(struct meter *m, const uint8_t value[16]);
 int meter_tick(struct meter *m, uint64_t now);
 /* 1, and the first time at which a tick ends something; or 0, and *time is as it was. */
 int meter_next_end(struct meter *m, uint64_t *time);
+/* How many datagrams a tick at this time gives up, since they waited for a route for 30 seconds: 0 to 8, and the notes that they were sent with. */
+int meter_expiring(struct meter *m, uint64_t now, uint32_t notes[8]);
 /* 1 to 1,280 octets. Done: it was sent, or waits for a route for 30 seconds at most. */
 int meter_send(struct meter *m, uint16_t to, uint32_t note, uint64_t now, const uint8_t *octets, size_t count);
 int meter_hear(struct meter *m, uint8_t cost, uint32_t note, uint64_t now, const uint8_t *frame, size_t count);
@@ -106,6 +108,7 @@ int coordinator_near(struct coordinator *c, uint16_t neighbour, uint8_t cost, ui
 int coordinator_random(struct coordinator *c, const uint8_t value[16]);
 int coordinator_tick(struct coordinator *c, uint64_t now);
 int coordinator_next_end(struct coordinator *c, uint64_t *time);
+int coordinator_expiring(struct coordinator *c, uint64_t now, uint32_t notes[8]);
 int coordinator_send(struct coordinator *c, uint16_t to, uint32_t note, uint64_t now, const uint8_t *octets, size_t count);
 int coordinator_hear(struct coordinator *c, uint8_t cost, uint32_t note, uint64_t now, const uint8_t *frame, size_t count);
 int coordinator_broke(struct coordinator *c, uint16_t neighbour);

@@ -82,6 +82,22 @@ unsafe fn next_end<N: Node>(at: *mut Lodged<N>, time: *mut u64) -> c_int {
     }
 }
 
+unsafe fn expiring<N: Node>(at: *mut Lodged<N>, now: u64, notes: *mut [u32; 8]) -> c_int {
+    let mut count = 0;
+    unsafe {
+        call(at, |inner| {
+            if let Some(places) = notes.as_mut() {
+                for (place, note) in places.iter_mut().zip(inner.node.station().expiring(now)) {
+                    *place = note;
+                    count += 1;
+                }
+            }
+            Ended::with(DONE)
+        })
+    };
+    count
+}
+
 unsafe fn hear<N: Node>(at: *mut Lodged<N>, cost: u8, note: u32, now: u64, frame: *const u8, count: usize) -> c_int {
     let given = LinkCost::new(cost).zip(unsafe { octets_of(frame, count) });
     made!(at, |inner| given, |(cost, frame)| inner.hear(frame, Came { cost, note, time: now }))
@@ -142,7 +158,7 @@ unsafe fn address<N: Node>(at: *mut Lodged<N>) -> u16 {
 
 // The calls that both kinds have, under the names of C.
 macro_rules! exported {
-    ($node:ty, $room:ident, $restart:ident, $near:ident, $random:ident, $tick:ident, $next_end:ident, $send:ident, $hear:ident, $broke:ident, $address:ident) => {
+    ($node:ty, $room:ident, $restart:ident, $near:ident, $random:ident, $tick:ident, $next_end:ident, $expiring:ident, $send:ident, $hear:ident, $broke:ident, $address:ident) => {
         #[unsafe(no_mangle)]
         extern "C" fn $room() -> usize {
             room_of_node::<$node>()
@@ -166,6 +182,10 @@ macro_rules! exported {
         #[unsafe(no_mangle)]
         unsafe extern "C" fn $next_end(m: *mut $node, time: *mut u64) -> c_int {
             unsafe { next_end(m, time) }
+        }
+        #[unsafe(no_mangle)]
+        unsafe extern "C" fn $expiring(m: *mut $node, now: u64, notes: *mut [u32; 8]) -> c_int {
+            unsafe { expiring(m, now, notes) }
         }
         #[unsafe(no_mangle)]
         unsafe extern "C" fn $send(m: *mut $node, to: u16, note: u32, now: u64, octets: *const u8, count: usize) -> c_int {
@@ -199,11 +219,12 @@ fn room_of_node<L: Lodging>() -> usize {
 }
 
 exported!(
-    Meter, meter_room, meter_restart, meter_near, meter_random, meter_tick, meter_next_end, meter_send, meter_hear, meter_broke, meter_address
+    Meter, meter_room, meter_restart, meter_near, meter_random, meter_tick, meter_next_end, meter_expiring, meter_send, meter_hear, meter_broke,
+    meter_address
 );
 exported!(
-    Coordinator, coordinator_room, coordinator_restart, coordinator_near, coordinator_random, coordinator_tick, coordinator_next_end, coordinator_send,
-    coordinator_hear, coordinator_broke, coordinator_address
+    Coordinator, coordinator_room, coordinator_restart, coordinator_near, coordinator_random, coordinator_tick, coordinator_next_end, coordinator_expiring,
+    coordinator_send, coordinator_hear, coordinator_broke, coordinator_address
 );
 
 #[unsafe(no_mangle)]
