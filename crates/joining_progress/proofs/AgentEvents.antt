@@ -47,17 +47,17 @@ use Rattle.joining_progress.proofs.PlainPlans.{Gives, at}
 module _ (ciphers : Ciphers) (opens : OpensWhatItSeals ciphers) (x : Newcomer) (c : Admitter) (a : Agent) (now : ℕ) where
   -- All three are there and hold this; so many events were taken and so many flights have flown, of which the last one has such a frame.
   pub record At (mx ma mc : Memory) (from : ℕ) (frame : Sent) (count place : ℕ) (w : World) : Type 0 where
-    meter_stored : Records
-    agent_stored : Records
-    stored : Records
-    meter : node_at w x.number ≡ Some (meter_with x.psk x.eui meter_stored mx)
-    agent : node_at w a.number ≡ Some (meter_with a.psk a.eui agent_stored ma)
-    coordinator : node_at w 0 ≡ Some (coordinator_with c.eui stored mc)
-    named : number_of w x.eui ≡ x.number
-    events : w.events ≡ count
-    clock : w.clock ≡ now
-    flown : slice_get w.flights place ≡ Some (flight_by from (spelled ciphers frame))
-    flights : length w.flights ≡ place + 1
+    pub meter_stored : Records
+    pub agent_stored : Records
+    pub stored : Records
+    pub meter : node_at w x.number ≡ Some (meter_with x.psk x.eui meter_stored mx)
+    pub agent : node_at w a.number ≡ Some (meter_with a.psk a.eui agent_stored ma)
+    pub coordinator : node_at w 0 ≡ Some (coordinator_with c.eui stored mc)
+    pub named : number_of w x.eui ≡ x.number
+    pub events : w.events ≡ count
+    pub clock : w.clock ≡ now
+    pub flown : slice_get w.flights place ≡ Some (flight_by from (spelled ciphers frame))
+    pub flights : length w.flights ≡ place + 1
 
   -- the address of the agent
   abbrev here : ℕ
