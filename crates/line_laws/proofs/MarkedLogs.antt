@@ -2,9 +2,8 @@
 use Rattle.std.proofs.Common.{inl, inr, zero-le, ◌≡◌, ◌⊎◌, ℕ, suc, ◌^◌, ◌<◌, Bool, true, false, List, [], ◌∷◌, ◌++◌, length}
 use Rattle.std.proofs.Common.{Option, Some, None, Result, Ok, Err, refl, sym, subst, arith}
 use Rattle.std.specs.Prelude.{if◌then◌else◌, ◌==◌, All, IfSome, is_some, nat_lt}
-use Rattle.std.specs.FinMap.{get-empty, insert}
+use Rattle.std.specs.FinMap.{insert}
 use Rattle.std.specs.Option.{option_map_or}
-use Rattle.std.specs.Ordering.{nat_cmp}
 use Rattle.std.proofs.lemmas.List.{append-nil}
 use Rattle.std.proofs.lemmas.List.Elements.{All-nil, All-cons, All-head, All-tail, All-append, All-weaker}
 use Rattle.store_tables.specs.AdmittedNumbers.{Admitted}
@@ -507,6 +506,6 @@ module _ (ups : List BroadcastUp) (n : ℕ) where
     given = [];
     before = [];
     run = begins nothing_beside.log (blank_node role eui).store.records (reopens nothing_beside.log (blank_node role eui).store.records (blank_in role eui))
-        (omega arith) (λ i j lt within none. get-empty nat_cmp (slot_of marks j));
+        (omega arith);
     covers = All-weaker (λ (u : BroadcastUp). u.node < n) (λ (u : BroadcastUp). Covered n [] u) (λ u lt e. absurd (omega arith)) ups earlier;
   }

@@ -31,10 +31,9 @@ use Rattle.line_record.specs.Stories.{Stories, last_owner, next_event, settled}
 use Rattle.line_record.specs.Stories.{unready, announced, ended, flight_owner, flight_seen, flights_seen, kept_begun, kept_ended}
 use Rattle.line_record.specs.Stories.{event_by, event_seen, events_seen, no_stories, stories_after, stories_of, record_seen}
 use Rattle.line_record.specs.Stories.{kept_seen, may_leave, message_story, piece_begun, sent_with, up_kept, up_marked}
-use Rattle.line_record.proofs.SendStories.{face_by, face, face_at, number_place, changed_here, changed_other, changed_length, AreOwn, within, one}
-use Rattle.line_record.proofs.SendStories.{Follows, number, owner, recorded, GoOn, longer, same, go_through, stay, line_on, begun_on, may_end_on}
-use Rattle.line_record.proofs.SendStories.{left_on, marked_on, own_on, follows_on, GoesOn, sent, on, goes_through, sends_begin, settled_so, begun_so}
-use Rattle.line_record.proofs.SendStories.{last_number, own_sent, follows_sent}
+use Rattle.line_record.proofs.SendStories.{face_by, face, face_at, number_place, changed_here, changed_other, changed_length, AreOwn, Follows, GoOn}
+use Rattle.line_record.proofs.SendStories.{go_through, stay, line_on, begun_on, may_end_on, left_on, marked_on, own_on, follows_on, GoesOn}
+use Rattle.line_record.proofs.SendStories.{goes_through, sends_begin, settled_so, begun_so, last_number, own_sent, follows_sent}
 
 -- # What is handed up
 

@@ -186,7 +186,7 @@ placed : (place : Place) (first node n : ℕ) (xs : List Story) (p : ℕ × Opti
 placed (At number) first node n xs p is = is
 placed (New kind) first node n xs p is = pushed xs n (new_story kind first node) p is
 
-pub lined : (o : Option ℕ) (first n : ℕ) (xs : List Story) (p : ℕ × Option ℕ) → face_at n xs ≡ Some p → face_at n (with_line o first xs) ≡ Some p
+lined : (o : Option ℕ) (first n : ℕ) (xs : List Story) (p : ℕ × Option ℕ) → face_at n xs ≡ Some p → face_at n (with_line o first xs) ≡ Some p
 lined None first n xs p is = is
 lined (Some place) first n xs p is = placed (line_place xs) (first + place) 0 n xs p is
 
@@ -343,7 +343,7 @@ pushed_face xs y =
     ∙ ap (option_and_then face) (slice_get-push xs y)
 
 -- the story of the event that was settled last, where it begins that of a datagram
-record IsBegun (old : Stories) (event : ℕ) (s : Stories) : Type 0 where
+pub record IsBegun (old : Stories) (event : ℕ) (s : Stories) : Type 0 where
   pub owner : last_owner s.owners ≡ length s.stories
   pub longer : length old.stories < length s.stories
   pub recorded : face_at (length s.stories) s.stories ≡ Some (event, None)
