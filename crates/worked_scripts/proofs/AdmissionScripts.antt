@@ -5,7 +5,7 @@ use Rattle.plc_base.proofs.OctetLists.{big_octets}
 use Rattle.worked_scripts.proofs.ArrivalScripts.{plain_opens}
 use Rattle.worked_scripts.proofs.ComputedScripts.{computed}
 use Rattle.worked_scripts.specs.AdmissionScripts.{TheMeterMayJoin, TheMeterJoins, TheMeterIsOutside, TheCoordinatorLetsItIn, PacketsHaveToPass}
-use Rattle.worked_scripts.specs.AdmissionScripts.{TheMeterMayJoinByAnAgent, TheAgentCarries}
+use Rattle.worked_scripts.specs.AdmissionScripts.{TheMeterMayJoinByAnAgent, TheAgentCarries, TheAgentHasRoutes}
 
 pub the_meter_may_join : TheMeterMayJoin
 unfolding computed TheMeterMayJoin
@@ -111,3 +111,7 @@ the_meter_may_join_by_an_agent = record {
 pub the_agent_carries : TheAgentCarries
 unfolding computed TheAgentCarries
 the_agent_carries = (refl, refl, refl, refl, refl, refl, refl, refl, refl, refl, refl)
+
+pub the_agent_has_routes : TheAgentHasRoutes
+unfolding computed TheAgentHasRoutes
+the_agent_has_routes = (refl, refl, refl, refl)

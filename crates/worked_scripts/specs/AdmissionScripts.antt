@@ -1,5 +1,5 @@
 -- A meter joins over the air where it may; and where one thing alone is lacking, it does not.
-use Rattle.std.specs.Prelude.{◌≡◌, ℕ, ◌-◌, List, [], ◌∷◌, ◌++◌, map, replicate, take, Some, None, unwrap_or}
+use Rattle.std.specs.Prelude.{◌≡◌, ℕ, ◌-◌, List, [], ◌∷◌, ◌++◌, drop, map, replicate, take, Some, None, unwrap_or}
 use Rattle.std.specs.Option.{option_map}
 use Rattle.byteorder.specs.Endian.{big_bytes}
 use Rattle.plc_base.specs.declared.address.Eui.{Eui}
@@ -25,9 +25,9 @@ use Rattle.line_rules.specs.Runs.{run, takings}
 use Rattle.line_rules.specs.Steps.{blank_node, psk_of}
 use Rattle.line_rules.specs.Worlds.{Pairing, World, node_at}
 use Rattle.line_progress.specs.Arrival.{answers_of}
-use Rattle.joining_progress.specs.AgentJoinings.{Agent, MayJoinBy, by_agent}
+use Rattle.joining_progress.specs.AgentJoinings.{Agent, MayJoinBy, agent_answers, by_agent}
 use Rattle.joining_progress.specs.Joinings.{Admitter, IsJoined, MayJoin, Newcomer, air_answers, doings, over_the_air}
-use Rattle.worked_scripts.specs.ArrivalScripts.{with_node, with_station_at, with_grant_at, with_cut_at}
+use Rattle.worked_scripts.specs.ArrivalScripts.{with_node, with_second_key, with_station_at, with_grant_at, with_cut_at}
 use Rattle.worked_scripts.specs.Scripts.{plain, eui, group_key, pair_key, second_key, rand_k, rand_r, world_of}
 
 -- # A meter that may join
@@ -228,3 +228,17 @@ TheAgentCarries =
     × (carried_with (λ w. record w { events = MAX_EVENTS - 12 })
     ≡ answers.Asked ∷ answers.Carried ∷ answers.Challenged ∷ answers.Carried ∷ answers.Replied ∷ answers.Carried ∷ answers.Keyed ∷ answers.Carried
     ∷ answers.Took ∷ answers.Carried ∷ answers.Done ∷ answers.Carried ∷ [])
+
+-- a node without ranks and routes
+abbrev pub with_no_route_at : ℕ → World → World
+with_no_route_at number w = with_station_at number (λ l. record l { routing = blank_station.routing }) w
+
+-- Nor where the agent or the coordinator has no route to the other, so that a message waits and a route is sought; or where the coordinator would give the
+-- meter the agent's address, since the last message is then not for the meter; or where the agent seals under an index above 1.
+unfoldable pub TheAgentHasRoutes : Type 0
+TheAgentHasRoutes =
+    (carried_with (with_no_route_at 1) ≡ answers.Asked ∷ answers.Carried ∷ answers.Answered ∷ answers.Learned ∷ answers.NotForMe ∷ [])
+    × (carried_with (with_no_route_at 0) ≡ answers.Asked ∷ answers.Carried ∷ answers.Challenged ∷ answers.Answered ∷ answers.NotForMe ∷ [])
+    × (carried_with (with_memory_at 0 (λ m. record m { book = drop 1 m.book })) ≡ take 12 agent_answers ++ answers.NotForMe ∷ [])
+    × (carried_with (λ w. with_grant_at 0 with_second_key (with_grant_at 1 (λ g. record (with_second_key g) { active = 2 }) w))
+    ≡ answers.Asked ∷ answers.Carried ∷ answers.Malformed ∷ [])

@@ -1,6 +1,6 @@
 //! A meter joins over the air where it may; where one thing alone is lacking, it does not.
 ghost use Rattle.worked_scripts.specs.AdmissionScripts.{TheMeterMayJoin, TheMeterJoins, TheMeterIsOutside, TheCoordinatorLetsItIn, PacketsHaveToPass};
-ghost use Rattle.worked_scripts.specs.AdmissionScripts.{TheMeterMayJoinByAnAgent, TheAgentCarries};
+ghost use Rattle.worked_scripts.specs.AdmissionScripts.{TheMeterMayJoinByAnAgent, TheAgentCarries, TheAgentHasRoutes};
 
 /// A meter that the coordinator allows may join over the air.
 #[tactic(auto, using(crate::proofs::AdmissionScripts::the_meter_may_join))]
@@ -46,4 +46,11 @@ pub fn the_meter_may_join_by_an_agent()
 #[tactic(auto, using(crate::proofs::AdmissionScripts::the_agent_carries))]
 pub fn the_agent_carries()
     ensures { TheAgentCarries }
+{}
+
+/// Nor where the agent or the coordinator has no route to the other, so that a message waits and a route is sought; or where the coordinator would give the
+/// meter the agent's address, since the last message is then not for the meter; or where the agent seals under an index above 1.
+#[tactic(auto, using(crate::proofs::AdmissionScripts::the_agent_has_routes))]
+pub fn the_agent_has_routes()
+    ensures { TheAgentHasRoutes }
 {}

@@ -21,6 +21,7 @@ mod way_scripts;
 
 pub use admission_scripts::packets_have_to_pass;
 pub use admission_scripts::the_agent_carries;
+pub use admission_scripts::the_agent_has_routes;
 pub use admission_scripts::the_coordinator_lets_it_in;
 pub use admission_scripts::the_meter_is_outside;
 pub use admission_scripts::the_meter_joins;
