@@ -8,6 +8,7 @@ use Rattle.flash_keeper.specs.Log.{AreCertain, Choice, IsLeft, room, fence, begu
 use Rattle.flash_keeper.specs.Banks.{AreHeld, AreReady, ArePurged, IsKept, are_full, are_purged, choice_of}
 use Rattle.flash_keeper.proofs.CellLemmas.{upto_unfenced}
 use Rattle.flash_keeper.proofs.LogLemmas.{less_or_same}
+use Rattle.flash_keeper.proofs.OpeningLemmas.{is_number}
 use Rattle.flash_keeper.proofs.BankLemmas.{ready_is_held, n_within}
 
 -- banks of which nothing is open
@@ -46,9 +47,6 @@ kept_within live spare n copied failed has_failed k = n_within live n (choice_of
 
 number_is : (m n : ℕ) → m ≡ n → (m == n) ≡ true
 number_is m n e = grind (arith, nat_tests)
-
-is_number : (m n : ℕ) → (m == n) ≡ true → m ≡ n
-is_number m n e = grind (arith, nat_tests)
 
 both_true : (a b : Bool) → a ≡ true → b ≡ true → (a && b) ≡ true
 both_true true true e f = refl

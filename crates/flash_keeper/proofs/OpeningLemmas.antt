@@ -1,10 +1,10 @@
 -- The end of a log as an opening reads it, and a cell that was written.
-use Rattle.std.proofs.Common.{◌≡◌, ◌⊎◌, inl, inr, ℕ, ◌+◌, ◌*◌, ◌/◌, ◌%◌, ◌^◌, ◌<◌, ◌≤◌, ◌==◌, Bool, true, false, List, take, length, Some}
+use Rattle.std.proofs.Common.{◌≡◌, ◌⊎◌, inl, inr, ℕ, ◌+◌, ◌*◌, ◌/◌, ◌%◌, ◌^◌, ◌<◌, ◌≤◌, ◌==◌, Bool, true, false, List, take, length, Some, None, if◌then◌else◌}
 use Rattle.std.proofs.Common.{refl, sym, subst, ap, ◌∙◌, arith}
-use Rattle.std.proofs.lemmas.Bool.{cases_lt}
+use Rattle.std.proofs.lemmas.Bool.{cases_lt, false_from_ne_true}
 use Rattle.std.proofs.lemmas.Bool.Decides.{nat_tests}
 use Rattle.flash_keeper.specs.Check.{check_of}
-use Rattle.flash_keeper.specs.Flash.{Bank, Programs, erased}
+use Rattle.flash_keeper.specs.Flash.{Bank, Programs, erased, head_word, layout_in}
 use Rattle.flash_keeper.specs.Log.{place, mark, close, room, value, low_at, slot_at, octets_from, IsFirm, IsWhole}
 use Rattle.flash_keeper.specs.Log.{HasRecord, IsCertain, IsOpen, IsLeft, Choice, SameOutside}
 use Rattle.flash_keeper.proofs.CellLemmas.{record-same}
@@ -47,6 +47,20 @@ found_none bank n cell count c left le fits full all = elim (less_or_same count 
 
 same_number : (n : ℕ) → (n == n) ≡ true
 same_number n = grind (arith, nat_tests)
+
+pub is_number : (m n : ℕ) → (m == n) ≡ true → m ≡ n
+is_number m n e = grind (arith, nat_tests)
+
+-- the layout that the first word of a bank names, or none
+pub no_layout : (word : ℕ) → (word / 65536 ≡ head_word / 65536 → ⊥) → None ≡ layout_in word
+no_layout word h =
+    let e = false_from_ne_true (word / 65536 == head_word / 65536) (λ t. h (is_number (word / 65536) (head_word / 65536) t)) in
+    sym (λ i. if e i then Some (word % 65536) else None)
+
+pub some_layout : (word : ℕ) → word / 65536 ≡ head_word / 65536 → Some (word % 65536) ≡ layout_in word
+some_layout word h =
+    let e = ap (λ (n : ℕ). n == head_word / 65536) h ∙ same_number (head_word / 65536) in
+    sym (λ i. if e i then Some (word % 65536) else None)
 
 -- check, slot, length and octets of a cell that were programmed
 pub record_written : (b0 b1 b2 : Bank) (k slot at low check : ℕ) (octets all : List ℕ) → at ≡ place k → Programs at (check * 0x100000000 + low) true b0 b1

@@ -1,5 +1,5 @@
 -- A bank of NOR flash: its words, what a reading of one may show, and what a program and an erase leave, also where power failed in them.
-use Rattle.std.specs.Prelude.{◌≡◌, ◌⊎◌, ℕ, Bool, true, false, Option, Some}
+use Rattle.std.specs.Prelude.{◌≡◌, ◌⊎◌, ◌/◌, ◌%◌, ◌==◌, ℕ, Bool, true, false, Option, Some, None, if◌then◌else◌}
 
 -- What a word reads as. None after a program of it was cut short: it then reads as anything, at each reading anew.
 abbrev pub Word : Type 0
@@ -12,6 +12,10 @@ erased = 0xFFFFFFFFFFFFFFFF
 -- the first word of a bank with a store of this layout: a name, and the number 3 of the layout
 abbrev pub head_word : ℕ
 head_word = 0x464C4B4545500003
+
+-- the number of the layout that the first word of a bank names: the lowest 16 bits of it, where the others are those of a head
+abbrev pub layout_in : ℕ → Option ℕ
+layout_in word = if word / 65536 == head_word / 65536 then Some (word % 65536) else None
 
 -- A bank. torn: an erase of it was cut short and none was done since. Its words are then what they were when that erase began, or what was
 -- programmed since. But each bit that is 0 rises to 1 at a moment of its own in an erase, so each word reads as anything, anew each time.

@@ -1,6 +1,6 @@
 //! A bank of flash, as firmware gives it.
-ghost use Rattle.std.specs.Prelude.{◌≡◌, ◌<◌, ◌≤◌, ◌^◌, is_ok, Bool, true, false, OnErr, Some};
-ghost use Rattle.flash_keeper.specs.Flash.{Bank, erased, head_word, Reads, MayProgram, Programs, Erases};
+ghost use Rattle.std.specs.Prelude.{◌≡◌, ◌<◌, ◌≤◌, ◌^◌, ℕ, is_ok, Bool, true, false, OnErr, Some};
+ghost use Rattle.flash_keeper.specs.Flash.{Bank, erased, head_word, layout_in, Reads, MayProgram, Programs, Erases};
 
 use plc_base::Failed;
 
@@ -89,7 +89,8 @@ pub trait FlashBank {
 /// The number of the layout of a store in a bank, None where its first word names none. It is [`LAYOUT`] in each bank that an opening
 /// takes; where a store of another layout is found, firmware that knows that layout can read it.
 pub fn layout_of<B: FlashBank>(bank: &B) -> Option<u16>
-    ensures { (B.bank bank.now).torn ≡ false → (B.bank bank.now).words 0 ≡ Some head_word → result ≡ Some 3 }
+    ensures own { (B.bank bank.now).torn ≡ false → (B.bank bank.now).words 0 ≡ Some head_word → result ≡ Some 3 }
+    ensures named { (B.bank bank.now).torn ≡ false → (word : ℕ) → (B.bank bank.now).words 0 ≡ Some word → result ≡ layout_in word }
 {
     let head = bank.read(0);
     if head / 65536 != HEAD / 65536 {

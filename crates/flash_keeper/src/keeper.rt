@@ -215,9 +215,13 @@ impl<B: FlashBank + Drop> FlashKeeper<B> {
     }
 
     /// Erases two banks, for a device that leaves service: then no word of them, and so no key, is left, however often it is read (`blank`). It gives the
-    /// banks back; with an error where a program or an erase failed, and then words may be left, so it is to be called again.
+    /// banks back in their order (`sizes`); with an error where a program or an erase failed, and then words may be left, so it is to be called again. The
+    /// first one is erased before the second one is begun (`order`).
     pub fn wipe(first: B, second: B) -> Result<(B, B), (B, B)>
         ensures blank { IfOk result (λ banks. IsBlank (B.bank banks.0) × IsBlank (B.bank banks.1)) }
+        ensures sizes { IfOk result (λ banks. ((B.bank banks.0).size ≡ (B.bank first).size) × ((B.bank banks.1).size ≡ (B.bank second).size)) }
+        ensures order { IfErr result (λ banks. ((B.bank banks.0).size ≡ (B.bank first).size)
+            × ((B.bank banks.1 ≡ B.bank second) ⊎ IsBlank (B.bank banks.0))) }
         ensures failed { IfErr result (λ banks. (B.has_failed banks.0 ≡ true) ⊎ (B.has_failed banks.1 ≡ true)) }
     {
         let mut first = first;
