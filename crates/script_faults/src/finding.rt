@@ -7,6 +7,7 @@ ghost use Rattle.script_faults.specs.Texts as texts;
 use sentence_parts::{Part, decimal_width, number, push_parts, sentence, words};
 use std::alloc::{AllocError, Global};
 use std::marker::Model;
+use text_signs::is_printable;
 
 /// What is wrong with a line: what is marked of it, what it says, and what helps.
 #[derive(Drop)]
