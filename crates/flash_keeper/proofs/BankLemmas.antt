@@ -250,13 +250,17 @@ pub sure_zero : (bank : Bank) (n at : ℕ) (c : Choice) → at ≡ 0 → IsLeft 
 sure_zero bank n at c head_at left (inl (here, unmarked)) = subst (λ (k : ℕ). IsClosable bank k c) (sym here) (left, unmarked)
 sure_zero bank n at c head_at left (inr next) = absurd (omega (arith, head_at, next))
 
-pub sure_before : (old new : Bank) (n at : ℕ) (c : Choice) (ok : Bool) → 0 < at → IsLeft old n c → IsFoundBlank old n at → ok ≡ true
+pub sure_before : (old new : Bank) (n at : ℕ) (c : Choice) (ok : Bool) → new.torn ≡ old.torn → new.size ≡ old.size → 0 < at → IsLeft old n c
+    → IsFoundBlank old n at → ok ≡ true
     → (ok ≡ true → (d : Choice) → IsLeft old (at - 1) d → IsSettled new (at - 1 + 1) × IsOneOf d (upto new.words (at - 1 + 1)))
-    → (IsCertain old.words (at - 1) → new ≡ old) → IsClosable new at c
-sure_before old new n at c ok more left (inl (here, unmarked)) is settled certain =
+    → (IsCertain old.words (at - 1) → (i : ℕ) → new.words i ≡ old.words i) → IsClosable new at c
+sure_before old new n at c ok torn size more left (inl (here, unmarked)) is settled certain =
     let same = certain (left.certain (at - 1) (omega (arith, here, more))) in
-    subst (λ (b : Bank). IsClosable b at c) (sym same) (subst (λ (k : ℕ). IsClosable old k c) (sym here) (left, unmarked))
-sure_before old new n at c ok more left (inr next) is settled certain =
+    subst (λ (k : ℕ). IsClosable new k c) (sym here) (
+      left-same old new n c torn size (λ i three. same i) left,
+      λ fits. same (mark n) ∙ unmarked (subst (λ (z : ℕ). n < room z) size fits),
+    )
+sure_before old new n at c ok torn size more left (inr next) is settled certain =
     let last : at - 1 ≡ n = omega (arith, next) in
     let back : at - 1 + 1 ≡ at = omega (arith, more) in
     let s = settled is c (subst (λ (k : ℕ). IsLeft old k c) (sym last) left) in
@@ -313,11 +317,13 @@ never_undecided bank n at ok more (inr next) is undecided decided =
     let last : n ≡ at - 1 = omega (arith, next) in
     undecided is (subst (λ (k : ℕ). IsDecided bank.words k) last decided.0)
 
-pub left_before : (old new : Bank) (n at : ℕ) (c : Choice) → 0 < at → IsLeft old n c → IsFoundBlank old n at
-    → ((d : Choice) → IsLeft old (at - 1) d → IsLeft new (at - 1) d) → (IsCertain old.words (at - 1) → new ≡ old) → IsLeft new n c
-left_before old new n at c more left (inl (here, unmarked)) keeps certain =
-    subst (λ (b : Bank). IsLeft b n c) (sym (certain (left.certain (at - 1) (omega (arith, here, more))))) left
-left_before old new n at c more left (inr next) keeps certain =
+pub left_before : (old new : Bank) (n at : ℕ) (c : Choice) → new.torn ≡ old.torn → new.size ≡ old.size → 0 < at → IsLeft old n c → IsFoundBlank old n at
+    → ((d : Choice) → IsLeft old (at - 1) d → IsLeft new (at - 1) d) → (IsCertain old.words (at - 1) → (i : ℕ) → new.words i ≡ old.words i)
+    → IsLeft new n c
+left_before old new n at c torn size more left (inl (here, unmarked)) keeps certain =
+    let same = certain (left.certain (at - 1) (omega (arith, here, more))) in
+    left-same old new n c torn size (λ i three. same i) left
+left_before old new n at c torn size more left (inr next) keeps certain =
     let last : at - 1 ≡ n = omega (arith, next) in
     subst (λ (k : ℕ). IsLeft new k c) last (keeps c (subst (λ (k : ℕ). IsLeft old k c) (sym last) left))
 

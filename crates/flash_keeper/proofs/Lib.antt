@@ -4,7 +4,9 @@ mod CellLemmas
 mod CopyLemmas
 mod KeeperLemmas
 mod LogLemmas
+mod MeasureLemmas
 mod ModelLemmas
 mod OpeningLemmas
 mod Outcomes
 mod RunLemmas
+mod WearLemmas

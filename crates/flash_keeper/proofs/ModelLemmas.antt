@@ -2,7 +2,7 @@
 use Rattle.std.proofs.Common.{◌≡◌, ◌∙◌, ℕ, zero, suc, ◌<◌, ◌≤◌, Bool, true, false, if◌then◌else◌, List, [], ◌∷◌, Option, Some, None, length, set, get_or}
 use Rattle.std.proofs.Common.{refl, sym, ap, arith}
 use Rattle.flash_keeper.specs.Flash.{erased, head_word, Reads}
-use Rattle.flash_keeper.specs.Model.{word_of, shown, bank_of}
+use Rattle.flash_keeper.specs.Model.{word_of, shown, counted, bank_of}
 use Rattle.flash_keeper.specs.declared.model_flash.ModelWord.{ModelWord}
 
 pub shown_set : (words : List ModelWord) (k : ℕ) (word : ModelWord) → k < length words → shown (set words k word) k ≡ word_of word
@@ -30,6 +30,33 @@ unfolding shown
 shown_past [] k h = refl
 shown_past (word ∷ words) zero h = absurd (omega (arith, h))
 shown_past (word ∷ words) (suc k) h = shown_past words k (omega (arith, h))
+
+-- and how often a word was programmed
+pub counted_set : (words : List ModelWord) (k : ℕ) (word : ModelWord) → k < length words → counted (set words k word) k ≡ word.programs
+unfolding counted
+counted_set [] k word h = absurd (omega (arith, h))
+counted_set (old ∷ words) zero word h = refl
+counted_set (old ∷ words) (suc k) word h = counted_set words k word (omega (arith, h))
+
+pub counted_other : (words : List ModelWord) (k i : ℕ) (word : ModelWord) → (i ≡ k → ⊥) → counted (set words k word) i ≡ counted words i
+unfolding counted
+counted_other [] k i word h = refl
+counted_other (old ∷ words) zero zero word h = absurd (h refl)
+counted_other (old ∷ words) zero (suc i) word h = refl
+counted_other (old ∷ words) (suc k) zero word h = refl
+counted_other (old ∷ words) (suc k) (suc i) word h = counted_other words k i word (λ e. h (omega (arith, e)))
+
+pub counted_read : (words : List ModelWord) (k : ℕ) (other : ModelWord) → k < length words → counted words k ≡ (get_or words k other).programs
+unfolding counted
+counted_read [] k other h = absurd (omega (arith, h))
+counted_read (word ∷ words) zero other h = refl
+counted_read (word ∷ words) (suc k) other h = counted_read words k other (omega (arith, h))
+
+pub counted_past : (words : List ModelWord) (k : ℕ) → length words ≤ k → counted words k ≡ 0
+unfolding counted
+counted_past [] k h = refl
+counted_past (word ∷ words) zero h = absurd (omega (arith, h))
+counted_past (word ∷ words) (suc k) h = counted_past words k (omega (arith, h))
 
 true_is_false : (b : Bool) → b ≡ true → b ≡ false → ⊥
 true_is_false true e f = cc

@@ -1,9 +1,17 @@
 -- A fact behind the outcome of a call.
-use Rattle.std.proofs.Common.{◌≡◌, true, Result, Ok, Err, OnOk, OnErr, IfOk, IfErr, is_ok, refl}
+use Rattle.std.proofs.Common.{◌≡◌, true, false, Result, Ok, Err, OnOk, OnErr, IfOk, IfErr, is_ok, refl}
 
 pub on_ok_of : {T E P : Type 0} (r : Result T E) → (is_ok r ≡ true → P) → OnOk r P
 on_ok_of (Ok x) f = f refl
 on_ok_of (Err e) f = tt
+
+pub on_err_of : {T E P : Type 0} (r : Result T E) → (is_ok r ≡ false → P) → OnErr r P
+on_err_of (Ok x) f = tt
+on_err_of (Err e) f = f refl
+
+pub of_both : {T E P : Type 0} (r : Result T E) → OnOk r P → OnErr r P → P
+of_both (Ok x) p q = p
+of_both (Err e) p q = q
 
 pub on_err : {T E P : Type 0} (r : Result T E) → P → OnErr r P
 on_err (Ok x) p = tt

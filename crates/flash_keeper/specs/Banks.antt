@@ -6,6 +6,7 @@ use Rattle.std.specs.FinMap.{code, insert, len}
 use Rattle.plc_base.specs.Keeper.{Records, Store, store_code}
 use Rattle.flash_keeper.specs.Flash.{Bank, erased, head_word}
 use Rattle.flash_keeper.specs.Log.{Choice, IsOneOf, IsSettled, IsLeft, AreCertain, HasDecayed, room, upto, upto_fence, is_erased}
+use Rattle.flash_keeper.specs.Wear.{AreWorn}
 use Rattle.flash_keeper.specs.declared.keeper.OpenFault.{OpenFault}
 
 -- A bank whose head is whole but for its mark.
@@ -100,21 +101,36 @@ pub record ArePurged (live spare : Bank) (records : Records) : Type 0 where
 abbrev pub are_full : Bank → ℕ → Bool
 are_full live n = leb (room live.size) (len (upto live.words n))
 
+-- two banks of which no word was programmed so much oftener than in a life in which nothing fails, whichever of them an opening takes for the live one
+abbrev pub AreWornBoth : ℕ → Bank → Bank → Type 0
+AreWornBoth more live spare = AreWorn more live spare × (IsDead spare ⊎ AreWorn more spare live)
+
 -- What a keeper over flash holds, what an opening of its banks may find in place of its records, and whether nothing but its records is in them.
--- Then why a put may fail: a program or an erase of one of its banks has failed, or a bank has no room for one record more.
+-- Then why a put may fail: a program or an erase of one of its banks has failed, or a bank has no room for one record more. Then how much oftener a word
+-- of its banks was programmed than in a life in which nothing fails, and whether no cell of its log is left.
 pub record FlashStore : Type 0 where
   pub store : Store
   pub left : Records
   pub purged : Bool
   pub has_failed : Bool
   pub full : Bool
+  pub worn : ℕ
+  pub used_up : Bool
 
 abbrev pub flash_store_code : Coded FlashStore
 flash_store_code =
-    code_by (Store × (Records × (Bool × (Bool × Bool))))
-    (coded× store_code (coded× (code coded_ℕ (coded_list coded_ℕ)) (coded× coded_bool (coded× coded_bool coded_bool))))
-    (λ s. (s.store, (s.left, (s.purged, (s.has_failed, s.full)))))
-    (λ p. record { store = p.0; left = p.1.0; purged = p.1.1.0; has_failed = p.1.1.1.0; full = p.1.1.1.1 }) (λ _. refl)
+    code_by (Store × (Records × (Bool × (Bool × (Bool × (ℕ × Bool))))))
+    (coded× store_code (coded× (code coded_ℕ (coded_list coded_ℕ)) (coded× coded_bool (coded× coded_bool (coded× coded_bool (coded× coded_ℕ coded_bool))))))
+    (λ s. (s.store, (s.left, (s.purged, (s.has_failed, (s.full, (s.worn, s.used_up)))))))
+    (λ p. record {
+      store = p.0;
+      left = p.1.0;
+      purged = p.1.1.0;
+      has_failed = p.1.1.1.0;
+      full = p.1.1.1.1.0;
+      worn = p.1.1.1.1.1.0;
+      used_up = p.1.1.1.1.1.1;
+    }) (λ _. refl)
 
 -- A cause for which a put or a purge fails: a program or an erase failed, or there is no room.
 abbrev pub HasCause : FlashStore → Type 0

@@ -1,5 +1,5 @@
 -- A bank of NOR flash: its words, what a reading of one may show, and what a program and an erase leave, also where power failed in them.
-use Rattle.std.specs.Prelude.{◌≡◌, ◌⊎◌, ◌/◌, ◌%◌, ◌==◌, ℕ, Bool, true, false, Option, Some, None, if◌then◌else◌}
+use Rattle.std.specs.Prelude.{◌≡◌, ◌⊎◌, ◌≤◌, ◌+◌, ◌/◌, ◌%◌, ◌==◌, ℕ, Bool, true, false, Option, Some, None, if◌then◌else◌}
 
 -- What a word reads as. None after a program of it was cut short: it then reads as anything, at each reading anew.
 abbrev pub Word : Type 0
@@ -25,6 +25,8 @@ pub record Bank : Type 0 where
   pub torn : Bool
   -- what is at each place; nothing was ever programmed at a place from size on
   pub words : ℕ → Word
+  -- how often the word at each place was programmed since the bank was erased
+  pub programs : ℕ → ℕ
 
 -- What a reading of the word at a place shows.
 pub record Reads (bank : Bank) (at word : ℕ) : Type 0 where
@@ -45,16 +47,22 @@ pub record Programs (at word : ℕ) (ok : Bool) (old new : Bank) : Type 0 where
   pub others : (i : ℕ) → (i ≡ at → ⊥) → new.words i ≡ old.words i
   pub torn : new.torn ≡ old.torn
   pub size : new.size ≡ old.size
+  -- it counts once; where it did not begin, it need not
+  pub once : new.programs at ≤ old.programs at + 1
+  pub uncounted : (i : ℕ) → (i ≡ at → ⊥) → new.programs i ≡ old.programs i
 
 -- An erase of a bank, which was done, also where it did not answer so, was cut short, or did not begin.
 pub record Erases (ok : Bool) (old new : Bank) : Type 0 where
   pub whole : ok ≡ true → new.torn ≡ false
   pub blank : ok ≡ true → (i : ℕ) → new.words i ≡ Some erased
+  pub fresh : ok ≡ true → (i : ℕ) → new.programs i ≡ 0
   pub cut : ok ≡ false
-      → (new ≡ old) ⊎ ((new.torn ≡ true) × (new.words ≡ old.words)) ⊎ ((new.torn ≡ false) × ((i : ℕ) → new.words i ≡ Some erased))
+      → (new ≡ old) ⊎ ((new.torn ≡ true) × (new.words ≡ old.words) × (new.programs ≡ old.programs))
+      ⊎ ((new.torn ≡ false) × ((i : ℕ) → new.words i ≡ Some erased) × ((i : ℕ) → new.programs i ≡ 0))
   pub size : new.size ≡ old.size
 
--- A bank of which each word is erased, and reads so each time.
+-- A bank of which each word is erased, and reads so each time, and none was programmed since.
 pub record IsBlank (bank : Bank) : Type 0 where
   pub firm : bank.torn ≡ false
   pub blank : (i : ℕ) → bank.words i ≡ Some erased
+  pub fresh : (i : ℕ) → bank.programs i ≡ 0

@@ -11,5 +11,11 @@ shown [] i = Some erased
 shown (w ∷ words) zero = word_of w
 shown (w ∷ words) (suc i) = shown words i
 
+-- how often a word was programmed since it was erased
+unfoldable pub counted : List ModelWord → ℕ → ℕ
+counted [] i = 0
+counted (w ∷ words) zero = w.programs
+counted (w ∷ words) (suc i) = counted words i
+
 abbrev pub bank_of : List ModelWord → Bool → Bank
-bank_of words torn = record { size = length words; torn = torn; words = shown words }
+bank_of words torn = record { size = length words; torn = torn; words = shown words; programs = counted words }

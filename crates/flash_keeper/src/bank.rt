@@ -1,5 +1,5 @@
 //! A bank of flash, as firmware gives it.
-ghost use Rattle.std.specs.Prelude.{◌≡◌, ◌<◌, ◌≤◌, ◌^◌, ℕ, is_ok, Bool, true, false, OnErr, Some};
+ghost use Rattle.std.specs.Prelude.{◌≡◌, ◌<◌, ◌≤◌, ◌+◌, ◌^◌, ℕ, is_ok, Bool, true, false, OnOk, OnErr, Some};
 ghost use Rattle.flash_keeper.specs.Flash.{Bank, erased, head_word, layout_in, Reads, MayProgram, Programs, Erases};
 
 use plc_base::Failed;
@@ -42,8 +42,8 @@ pub fn is_programmed(word: u64) -> bool
 ///   model has, but it may also touch other words, which it has not.
 /// - **Invert** where an erased bit of the part is 0.
 ///
-/// Each word may be programmed several times between erases: zeros over it, after an opening or a loss of power. Parts that refuse or limit that
-/// do not fit (`docs/CRATES.md` has a table).
+/// Each word may be programmed several times between erases: zeros over it, after an opening or a loss of power. The contracts of a keeper bound that
+/// (`worn`). Parts that refuse it, or take fewer programs, do not fit (the crate's page has a table).
 pub trait FlashBank {
     /// The words of the bank.
     ghost bank: { Self → Bank };
@@ -75,6 +75,7 @@ pub trait FlashBank {
         requires within { at < (bank self.old).size }
         requires allowed { MayProgram (bank self.old) at word }
         ensures programs { Programs at word (is_ok result) (bank self.old) (bank self.new) }
+        ensures counted { OnOk result ((bank self.new).programs at ≡ (bank self.old).programs at + 1) }
         ensures failed { OnErr result (has_failed self.new ≡ true) };
 
     /// Erases all words of the bank, and no other. After `Failed` it was cut short, or did not begin.

@@ -9,6 +9,7 @@ ghost use Rattle.flash_keeper.specs.Log.{place, mark, fence, close, room, low_at
 ghost use Rattle.flash_keeper.specs.Log.{IsSettled, IsLeft, SameOutside, Choice, IsOneOf, SameBelow, IsOpen, IsFoundBlank, IsClosable, upto, IsBlankFrom};
 ghost use Rattle.flash_keeper.specs.Log.{holds, holds_later, counts, kept, begun, IsFirm, IsCertain, IsReadable, has_check, body_at, HasDecayed};
 ghost use Rattle.flash_keeper.specs.Log.{IsShort, IsDecided, AreDecided, HasRecord};
+ghost use Rattle.flash_keeper.specs.Wear.{Counts, Keeps};
 
 use crate::bank::{ERASED, FlashBank, is_programmed};
 use crate::check::check_of;
@@ -240,6 +241,7 @@ fn write_words<B: FlashBank>(bank: &mut B, cell: usize, octets: &[u8; 64]) -> Re
     ensures octets { OnOk result (octets_from (B.bank bank.new).words (place cell + 1) 8 ≡ octets.now) }
     ensures body { OnOk result ((i : ℕ) → i < 8 → IsFirm ((B.bank bank.new).words (place cell + 1 + i))) }
     ensures same { SameOutside (place cell + 1) (close cell) (B.bank bank.old) (B.bank bank.new) }
+    ensures counts { Counts (place cell + 1) (close cell) (B.bank bank.old) (B.bank bank.new) }
     ensures firm { (B.bank bank.new).torn ≡ false }
     ensures size { (B.bank bank.new).size ≡ (B.bank bank.old).size }
     ensures failed { OnErr result (B.has_failed bank.new ≡ true) }
@@ -267,6 +269,7 @@ fn write_record<B: FlashBank>(
     requires blank { IsBlankFrom (B.bank bank.old).words (place cell) }
     ensures record { OnOk result (HasRecord (B.bank bank.new).words cell slot octets.now) }
     ensures same { SameOutside (place cell) (close cell) (B.bank bank.old) (B.bank bank.new) }
+    ensures counts { Counts (place cell) (close cell) (B.bank bank.old) (B.bank bank.new) }
     ensures firm { (B.bank bank.new).torn ≡ false }
     ensures size { (B.bank bank.new).size ≡ (B.bank bank.old).size }
     ensures failed { OnErr result (B.has_failed bank.new ≡ true) }
@@ -295,6 +298,7 @@ fn write_body<B: FlashBank>(
     ensures fence { OnOk result ((B.bank bank.new).words (fence cell) ≡ Some 0) }
     ensures left { ((B.bank bank.new).words (fence cell) ≡ Some erased) ⊎ HasRecord (B.bank bank.new).words cell slot octets.now }
     ensures same { SameOutside (place cell) (mark cell) (B.bank bank.old) (B.bank bank.new) }
+    ensures counts { Counts (place cell) (mark cell) (B.bank bank.old) (B.bank bank.new) }
     ensures firm { (B.bank bank.new).torn ≡ false }
     ensures size { (B.bank bank.new).size ≡ (B.bank bank.old).size }
     ensures failed { OnErr result (B.has_failed bank.new ≡ true) }
@@ -320,6 +324,7 @@ pub fn write_cell<B: FlashBank>(
         → IsOneOf c (insert (upto (B.bank bank.old).words cell) slot octets.now)
         → IsLeft (B.bank bank.new) cell c) }
     ensures same { SameOutside (place cell) (place cell + 12) (B.bank bank.old) (B.bank bank.new) }
+    ensures counts { Counts (place cell) (place cell + 12) (B.bank bank.old) (B.bank bank.new) }
     ensures firm { (B.bank bank.new).torn ≡ false }
     ensures size { (B.bank bank.new).size ≡ (B.bank bank.old).size }
     ensures failed { OnErr result (B.has_failed bank.new ≡ true) }
@@ -352,6 +357,9 @@ fn copy_cell<B: FlashBank>(
     ensures records { IfOk result (λ n. upto (B.bank to.new).words n ≡ kept (B.bank from.now).words cells (cell + 1)) }
     ensures each { IfOk result (λ n. len (kept (B.bank from.now).words cells (cell + 1)) ≡ n) }
     ensures few { IfOk result (λ n. n ≤ cell + 1) }
+    ensures more { IfOk result (λ n. next ≤ n) }
+    ensures counts { IfOk result (λ n. Counts (place next) (place n) (B.bank to.old) (B.bank to.new)) }
+    ensures begun { OnErr result (Counts (place next) (place next + 12) (B.bank to.old) (B.bank to.new)) }
     ensures firm { (B.bank to.new).torn ≡ false }
     ensures heads { SameBelow 3 (B.bank to.old) (B.bank to.new) }
     ensures size { (B.bank to.new).size ≡ (B.bank to.old).size }
@@ -382,6 +390,9 @@ pub fn copy_cells<B: FlashBank>(from: &B, cells: usize, to: &mut B) -> Result<us
     ensures settled { IfOk result (λ n. IsSettled (B.bank to.new) n) }
     ensures records { IfOk result (λ n. upto (B.bank to.new).words n ≡ upto (B.bank from.now).words cells) }
     ensures each { IfOk result (λ n. len (upto (B.bank to.new).words n) ≡ n) }
+    ensures counts { IfOk result (λ n. Counts 3 (place n) (B.bank to.old) (B.bank to.new)) }
+    ensures once { OnErr result ((i : ℕ) → ((B.bank to.new).programs i ≤ (B.bank to.old).programs i + 1)
+        × (i < 3 → (B.bank to.new).programs i ≡ (B.bank to.old).programs i)) }
     ensures firm { (B.bank to.new).torn ≡ false }
     ensures heads { SameBelow 3 (B.bank to.old) (B.bank to.new) }
     ensures size { (B.bank to.new).size ≡ (B.bank to.old).size }
@@ -403,6 +414,7 @@ fn is_blank<B: FlashBank>(bank: &B, cell: usize) -> bool
     ensures certain { IsCertain (B.bank bank.now).words cell → result ≡ false }
     ensures whole { IsWhole (B.bank bank.now).words cell → result ≡ false }
     ensures blank { (B.bank bank.now).words (place cell) ≡ Some erased → (B.bank bank.now).words (close cell) ≡ Some erased → result ≡ true }
+    ensures closed { (B.bank bank.now).words (close cell) ≡ Some 0 → result ≡ false }
 {
     bank.read(place_of(cell)) == ERASED && bank.read(place_of(cell) + CLOSE) == ERASED
 }
@@ -412,6 +424,7 @@ pub fn first_blank<B: FlashBank>(bank: &B) -> usize
     requires firm { (B.bank bank.now).torn ≡ false }
     ensures found { (n : ℕ) (c : Choice) → IsLeft (B.bank bank.now) n c → IsFoundBlank (B.bank bank.now) n result }
     ensures within { result ≤ room (B.bank bank.now).size }
+    ensures unclosed { result < room (B.bank bank.now).size → (B.bank bank.now).words (close result) ≡ Some 0 → ⊥ }
 {
     let count = cell_count(bank);
     let mut cell = 0;
@@ -493,7 +506,8 @@ pub fn close_cell<B: FlashBank>(bank: &mut B, cell: usize) -> Result<(), Failed>
     ensures settled { OnOk result ((c : Choice) → IsLeft (B.bank bank.old) cell c → (B.bank bank.old).words (mark cell) ≡ Some erased
         → IsSettled (B.bank bank.new) (cell + 1) × IsOneOf c (upto (B.bank bank.new).words (cell + 1))) }
     ensures left { (c : Choice) → IsLeft (B.bank bank.old) cell c → (B.bank bank.old).words (mark cell) ≡ Some erased → IsLeft (B.bank bank.new) cell c }
-    ensures same { (B.bank bank.old).words (close cell) ≡ Some 0 → B.bank bank.new ≡ B.bank bank.old }
+    ensures same { (B.bank bank.old).words (close cell) ≡ Some 0 → (i : ℕ) → (B.bank bank.new).words i ≡ (B.bank bank.old).words i }
+    ensures programs { Programs (close cell) 0 (is_ok result) (B.bank bank.old) (B.bank bank.new) }
     ensures heads { SameBelow 3 (B.bank bank.old) (B.bank bank.new) }
     ensures firm { (B.bank bank.new).torn ≡ false }
     ensures size { (B.bank bank.new).size ≡ (B.bank bank.old).size }
@@ -509,7 +523,8 @@ fn mark_cell<B: FlashBank>(bank: &mut B, cell: usize) -> Result<(), Failed>
     ensures settled { OnOk result ((c : Choice) → IsLeft (B.bank bank.old) cell c → (B.bank bank.old).words (fence cell) ≡ Some 0
         → IsSettled (B.bank bank.new) (cell + 1) × IsOneOf c (upto (B.bank bank.new).words (cell + 1))) }
     ensures left { (c : Choice) → IsLeft (B.bank bank.old) cell c → (B.bank bank.old).words (fence cell) ≡ Some 0 → IsLeft (B.bank bank.new) cell c }
-    ensures same { (B.bank bank.old).words (mark cell) ≡ Some 0 → B.bank bank.new ≡ B.bank bank.old }
+    ensures same { (B.bank bank.old).words (mark cell) ≡ Some 0 → (i : ℕ) → (B.bank bank.new).words i ≡ (B.bank bank.old).words i }
+    ensures programs { Programs (mark cell) 0 (is_ok result) (B.bank bank.old) (B.bank bank.new) }
     ensures heads { SameBelow 3 (B.bank bank.old) (B.bank bank.new) }
     ensures firm { (B.bank bank.new).torn ≡ false }
     ensures size { (B.bank bank.new).size ≡ (B.bank bank.old).size }
@@ -525,6 +540,7 @@ fn fence_cell<B: FlashBank>(bank: &mut B, cell: usize) -> Result<(), Failed>
     requires fenced { begun ((B.bank bank.old).words (fence cell)) ≡ true }
     ensures left { (c : Choice) → IsLeft (B.bank bank.old) cell c → IsLeft (B.bank bank.new) cell c }
     ensures fence { OnOk result ((B.bank bank.new).words (fence cell) ≡ Some 0) }
+    ensures programs { Programs (fence cell) 0 (is_ok result) (B.bank bank.old) (B.bank bank.new) }
     ensures heads { SameBelow 3 (B.bank bank.old) (B.bank bank.new) }
     ensures firm { (B.bank bank.new).torn ≡ false }
     ensures size { (B.bank bank.new).size ≡ (B.bank bank.old).size }
@@ -544,7 +560,9 @@ fn settle_last<B: FlashBank>(bank: &mut B, cell: usize) -> Result<bool, Failed>
     ensures torn { IfOk result (λ ok. ok ≡ false → B.bank bank.new ≡ B.bank bank.old) }
     ensures unmarked { IfOk result (λ ok. ok ≡ false → (B.bank bank.old).words (mark cell) ≡ Some 0 → ⊥) }
     ensures undecided { IfOk result (λ ok. ok ≡ false → IsDecided (B.bank bank.old).words cell → ⊥) }
-    ensures certain { IsCertain (B.bank bank.old).words cell → B.bank bank.new ≡ B.bank bank.old }
+    ensures certain { IsCertain (B.bank bank.old).words cell → (i : ℕ) → (B.bank bank.new).words i ≡ (B.bank bank.old).words i }
+    ensures counts { Counts (place cell) (place cell + 12) (B.bank bank.old) (B.bank bank.new) }
+    ensures keeps { Keeps (B.bank bank.old) (B.bank bank.new) }
     ensures left { OnErr result ((c : Choice) → IsLeft (B.bank bank.old) cell c → IsLeft (B.bank bank.new) cell c) }
     ensures heads { SameBelow 3 (B.bank bank.old) (B.bank bank.new) }
     ensures firm { (B.bank bank.new).torn ≡ false }
@@ -578,6 +596,9 @@ pub fn settle_before<B: FlashBank>(bank: &mut B, at: usize) -> Result<bool, Fail
         → IsShort (B.bank bank.new) n at c) }
     ensures undecided { IfOk result (λ ok. ok ≡ false → (n : ℕ) (c : Choice) → IsLeft (B.bank bank.old) n c → IsFoundBlank (B.bank bank.old) n at
         → AreDecided (B.bank bank.old).words n → ⊥) }
+    ensures same { IfOk result (λ ok. ok ≡ false → B.bank bank.new ≡ B.bank bank.old) }
+    ensures counts { Counts (place (at - 1)) (place at) (B.bank bank.old) (B.bank bank.new) }
+    ensures keeps { Keeps (B.bank bank.old) (B.bank bank.new) }
     ensures left { OnErr result ((n : ℕ) (c : Choice) → IsLeft (B.bank bank.old) n c → IsFoundBlank (B.bank bank.old) n at → IsLeft (B.bank bank.new) n c) }
     ensures heads { SameBelow 3 (B.bank bank.old) (B.bank bank.new) }
     ensures firm { (B.bank bank.new).torn ≡ false }

@@ -1,5 +1,5 @@
 //! The keeper.
-ghost use Rattle.std.specs.Prelude.{◌≡◌, ◌<◌, ◌≤◌, ◌^◌, ◌/◌, ℕ, is_ok, OnOk, OnErr, IfOk, IfErr, None, true, false, ◌⊎◌};
+ghost use Rattle.std.specs.Prelude.{◌≡◌, ◌<◌, ◌≤◌, ◌+◌, ◌^◌, ◌/◌, ◌||◌, ℕ, is_ok, OnOk, OnErr, IfOk, IfErr, None, true, false, ◌⊎◌};
 ghost use Rattle.std.specs.FinMap.{insert};
 ghost use Rattle.std.specs.FinMap as map;
 ghost use Rattle.plc_base.specs.Keeper.{IsSlot, Puts};
@@ -7,6 +7,7 @@ ghost use Rattle.flash_keeper.specs.Log.{Choice, IsLeft, room};
 ghost use Rattle.flash_keeper.specs.Banks.{AreLeft, ArePurged, IsStore, IsCause, IsOpened, IsLeftBy, IsLeftOpen, IsDecayed, MayOpen, FlashStore};
 ghost use Rattle.flash_keeper.specs.Banks.{HasCause};
 ghost use Rattle.flash_keeper.specs.Flash.{IsBlank};
+ghost use Rattle.flash_keeper.specs.Wear.{one_if, worn_of, worn_with, AreProgrammed};
 
 use crate::bank::FlashBank;
 use crate::cells::{cell_count, find, has_decayed};
@@ -38,8 +39,9 @@ pub enum OpenFault {
 /// A keeper over two banks of NOR flash.
 ///
 /// A contract sees what it holds, what an opening of its banks may find in place of that, whether nothing but its records is left in them, and the two
-/// causes for which a put may fail: a program or an erase of one of its banks has failed, or a bank has no cell more than there are records. After
-/// `Failed` it holds the records from before, and each further put fails, until it is reopened.
+/// causes for which a put may fail: a program or an erase of one of its banks has failed, or a bank has no cell more than there are records. Then how
+/// much oftener a word of its banks was programmed since the erase of its bank than in a life in which nothing fails (`worn`), and whether no cell of its
+/// log is left (`used_up`). After `Failed` it holds the records from before, and each further put fails, until it is reopened.
 #[derive(Drop)]
 pub struct FlashKeeper<B: FlashBank + Drop> {
     pair: Pair<B>,
@@ -48,8 +50,9 @@ pub struct FlashKeeper<B: FlashBank + Drop> {
 }
 
 impl<B: FlashBank + Drop> Model for FlashKeeper<B> {
-    ghost use Rattle.std.specs.Prelude.{None, ◌||◌};
-    ghost use Rattle.flash_keeper.specs.Log.{upto, upto_fence};
+    ghost use Rattle.std.specs.Prelude.{None, ◌||◌, leb};
+    ghost use Rattle.flash_keeper.specs.Log.{room, upto, upto_fence};
+    ghost use Rattle.flash_keeper.specs.Wear.{worn_with};
     ghost use Rattle.flash_keeper.specs.Banks.{FlashStore, flash_store_code, IsKept, are_full, are_purged};
 
     ghost Value = { FlashStore };
@@ -62,6 +65,8 @@ impl<B: FlashBank + Drop> Model for FlashKeeper<B> {
       purged = are_purged (B.bank k.pair.live) (B.bank k.pair.spare) k.pair.next;
       has_failed = B.has_failed k.pair.live || B.has_failed k.pair.spare;
       full = are_full (B.bank k.pair.live) k.pair.next;
+      worn = worn_with (B.bank k.pair.live) (B.bank k.pair.spare);
+      used_up = leb (room (B.bank k.pair.live).size) k.pair.next;
     } };
 
     ghost invariant = { λ k. IsKept (B.bank k.pair.live) (B.bank k.pair.spare) k.pair.next k.pair.copied k.failed
@@ -80,6 +85,7 @@ impl<B: FlashBank + Drop> FlashKeeper<B> {
         ensures ok { IfOk result (λ keeper. keeper.store ≡ record { records = map.empty; faults = 0; known_cut = None; listed = None }) }
         ensures left { IfOk result (λ keeper. keeper.left ≡ map.empty) }
         ensures purged { IfOk result (λ keeper. keeper.purged ≡ true) }
+        ensures worn { IfOk result (λ keeper. keeper.worn ≡ 0) }
         ensures sizes { IfOk result (λ keeper. (B.bank first).size ≡ (B.bank second).size) }
         ensures cells { IfOk result (λ keeper. slots ≤ room (B.bank first).size / 2) }
         ensures fault { IfErr result (λ e. ((e.0 ≡ OpenFault.Small) × (room (B.bank first).size / 2 < slots)) ⊎ IsCause e.0 (B.bank first) (B.bank second)) }
@@ -121,6 +127,8 @@ impl<B: FlashBank + Drop> FlashKeeper<B> {
             × (B.bank e.1 ≡ B.bank live) × (B.bank e.2 ≡ B.bank spare)) }
         ensures failed { IfErr result (λ e. e.0 ≡ OpenFault.Flash → (B.has_failed e.1 ≡ true) ⊎ (B.has_failed e.2 ≡ true)) }
         ensures left { IfErr result (λ e. (n : ℕ) (c : Choice) → AreLeft (B.bank live) (B.bank spare) n c → IsStore (B.bank e.1) (B.bank e.2) c) }
+        ensures worn { IfOk result (λ keeper. keeper.worn ≤ worn_with (B.bank live) (B.bank spare) + one_if (B.bank spare).torn + one_if keeper.used_up) }
+        ensures cut { IfErr result (λ e. worn_of (B.bank e.1) (B.bank e.2) ≤ worn_with (B.bank live) (B.bank spare) + one_if (B.bank spare).torn + 1) }
     {
         if has_decayed(&live) {
             return Err((OpenFault::Decayed, live, spare));
@@ -155,6 +163,9 @@ impl<B: FlashBank + Drop> FlashKeeper<B> {
     /// - [`OpenFault::Decayed`] where a cell that counts has another check than that of its slot, its length and its octets: bits have changed by
     ///   themselves, and the banks are no store as it was written (`fault`). Nothing was programmed. It answers that, and nothing else, for each
     ///   live bank with such a cell beside a retired one (`decayed`). What is left may lack a counter: format the banks, and join again.
+    ///
+    /// It programs no word oftener than in a life in which nothing fails (`worn`), but once where an erase of a bank was cut short, or where it leaves no
+    /// cell of the log; with a fault once more (`cut`).
     #[tactic(auto, using(crate::proofs::BankLemmas::decayed_is_seen))]
     pub fn open(first: B, second: B) -> Result<FlashKeeper<B>, (OpenFault, B, B)>
         requires { MayOpen (B.bank first) (B.bank second) }
@@ -165,6 +176,10 @@ impl<B: FlashBank + Drop> FlashKeeper<B> {
             → (IfOk result (λ keeper. ⊥)) × IfErr result (λ e. e.0 ≡ OpenFault.Decayed) }
         ensures failed { IfErr result (λ e. e.0 ≡ OpenFault.Flash → (B.has_failed e.1 ≡ true) ⊎ (B.has_failed e.2 ≡ true)) }
         ensures left { IfErr result (λ e. (c : Choice) → IsStore (B.bank first) (B.bank second) c → IsStore (B.bank e.1) (B.bank e.2) c) }
+        ensures worn { IfOk result (λ keeper. keeper.worn
+            ≤ worn_of (B.bank first) (B.bank second) + one_if ((B.bank first).torn || (B.bank second).torn) + one_if keeper.used_up) }
+        ensures cut { IfErr result (λ e. worn_of (B.bank e.1) (B.bank e.2)
+            ≤ worn_of (B.bank first) (B.bank second) + one_if ((B.bank first).torn || (B.bank second).torn) + 1) }
     {
         if first.words() != second.words() {
             return Err((OpenFault::Sizes, first, second));
@@ -193,11 +208,13 @@ impl<B: FlashBank + Drop> FlashKeeper<B> {
     /// - [`OpenFault::Decayed`] where a cell of the bank in use has decayed, as `open` does; nothing was programmed. In the model no bit of a keeper's banks
     ///   changes by itself, so there it does not come (`fault`).
     ///
-    /// With a fault it holds one of the two still, an opening finds one of the two (`among`), and each further put fails.
+    /// With a fault it holds one of the two still, an opening finds one of the two (`among`), and each further put fails. It programs no word more than
+    /// twice oftener than in a life in which nothing fails (`worn`).
     #[tactic(auto, using(crate::proofs::KeeperLemmas::kept_of_ready, crate::proofs::KeeperLemmas::kept_of_failed, crate::proofs::KeeperLemmas::nothing_else))]
     pub fn reopen(&mut self) -> Result<(), OpenFault>
         ensures among { IsLeftOpen self.old self.new }
         ensures opened { OnOk result (self.new.left ≡ self.new.store.records) }
+        ensures worn { self.new.worn ≤ self.old.worn + 2 }
         ensures faults { self.new.store.faults ≡ self.old.store.faults }
         ensures known_cut { self.new.store.known_cut ≡ self.old.store.known_cut }
         ensures listed { self.new.store.listed ≡ self.old.store.listed }
@@ -239,10 +256,12 @@ impl<B: FlashBank + Drop> FlashKeeper<B> {
     /// left in flash (`purged`). It costs two erases: call it after a device has left or was given other keys, and not at each put.
     ///
     /// It fails only where a program or an erase failed, or where an earlier put found no room (`failed`). After `Failed` it holds the records from before,
-    /// as an opening of its banks does (`left`); each further put and purge fails.
+    /// as an opening of its banks does (`left`); each further put and purge fails. A purge that failed may have programmed a word once oftener (`cut`).
     #[tactic(auto, using(crate::proofs::KeeperLemmas::kept_of_ready, crate::proofs::KeeperLemmas::kept_of_failed, crate::proofs::KeeperLemmas::nothing_else))]
     pub fn purge(&mut self) -> Result<(), Failed>
         ensures purged { OnOk result (self.new.purged ≡ true) }
+        ensures worn { OnOk result (self.new.worn ≤ self.old.worn) }
+        ensures cut { OnErr result (self.new.worn ≤ self.old.worn + 1) }
         ensures same { self.new.store.records ≡ self.old.store.records }
         ensures faults { self.new.store.faults ≡ self.old.store.faults }
         ensures known_cut { self.new.store.known_cut ≡ self.old.store.known_cut }
@@ -270,10 +289,13 @@ impl<B: FlashBank + Drop> FlashKeeper<B> {
     }
 
     /// The banks, to be opened again: they stand for the records that it holds, or those that are left of a failed put. After a purge nothing else is in
-    /// them: the first one has a cell for each record, and of the second one each word is erased.
+    /// them: the first one has a cell for each record, and of the second one each word is erased. How often each word of them was programmed since its erase
+    /// is bounded by `worn` (`programs`).
     pub fn into_banks(self) -> (B, B)
         ensures store { IsStore (B.bank result.0) (B.bank result.1) (record { old = self.store.records; new = self.left }) }
         ensures purged { self.purged ≡ true → ArePurged (B.bank result.0) (B.bank result.1) self.store.records }
+        ensures worn { worn_of (B.bank result.0) (B.bank result.1) ≤ self.worn }
+        ensures programs { AreProgrammed self.worn (B.bank result.0) × AreProgrammed self.worn (B.bank result.1) }
     {
         (self.pair.live, self.pair.spare)
     }
@@ -289,6 +311,8 @@ impl<B: FlashBank + Drop> FlashKeeper<B> {
         ensures known_cut { self.new.store.known_cut ≡ self.old.store.known_cut }
         ensures listed { self.new.store.listed ≡ self.old.store.listed }
         ensures left { IsLeftBy self.old slot octets.now (is_ok result) self.new }
+        ensures worn { OnOk result (self.new.worn ≤ self.old.worn) }
+        ensures cut { OnErr result (self.new.worn ≤ self.old.worn + 1) }
         ensures failed { OnErr result (HasCause self.new) }
     {
         if self.failed {
@@ -312,12 +336,14 @@ impl<B: FlashBank + Drop> Keeper for FlashKeeper<B> {
     /// Writes the record at a slot. It fails only where a program or an erase failed, and where both banks are full of records of other slots (`failed`).
     ///
     /// After `Failed` it holds the records from before, an opening of its banks finds those or the ones with this record (`left`), and each
-    /// further put fails.
+    /// further put fails. Such a put may have programmed a word once oftener than in a life in which nothing fails, and no other put does (`worn`, `cut`).
     fn put(&mut self, slot: u32, octets: &Record) -> Result<(), Failed>
         requires { IsSlot slot }
         ensures puts { Puts self.old.store slot octets.now (is_ok result) self.new.store }
         ensures old { OnErr result (self.new.store.records ≡ self.old.store.records) }
         ensures left { IsLeftBy self.old slot octets.now (is_ok result) self.new }
+        ensures worn { OnOk result (self.new.worn ≤ self.old.worn) }
+        ensures cut { OnErr result (self.new.worn ≤ self.old.worn + 1) }
         ensures failed { OnErr result (HasCause self.new) }
     {
         let Ok(()) = self.write(slot, octets) else {

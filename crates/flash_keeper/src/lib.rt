@@ -18,6 +18,9 @@
 //! - A torn erase may leave any word of a bank as it was, the head too. So a bank is retired before it is erased, and before the store goes on
 //!   with the copy of it: its head is then 0 in each bit. One premise is left (`from_zero`): where a torn erase met such a word, it does not read
 //!   as the head of a store. Of its 64 bits just 20 would have to rise before each of the others: one order in 1.9 * 10^16.
+//! - How often a word is programmed between two erases of its bank: one of a cell twice at most; of the head the first one three times, and once more
+//!   right before the erase, the other two twice. A put, a purge or an opening that fails adds one at most to each word, a reopening two, and an opening
+//!   that finds an erase of the other bank cut short, or leaves no cell of the log, one (`worn`, `cut`, and `programs` of `into_banks`).
 //! - No opening finds an older store. It may find none, for a time, where power failed in two programs in a row: that of the mark of a copy,
 //!   and that by which the opening after it retires this copy, whose mark read as not there. If both torn words then read as whole, it goes on
 //!   with the copy, whose head is weak until the log is copied again. Openings that read the head answer its records, others
@@ -68,7 +71,7 @@
 //! | flash, per bank | 24 octets, and 96 for each put until the bank is full |
 //! | a put | 3 programs of slot, fence and mark, and one for each 8 octets of the record: 11 at most |
 //! | an opening | 2 programs, and one cell; one program more after a cut in a fence; 3 more in the first one after a bank was copied, which are of heads |
-//! | a word of a head | programmed at most 4 times between erases, and once more in an opening that loses power there, or after an erase that did |
+//! | a word of a head | programmed at most 4 times between erases, one of a cell twice, and oftener as above |
 //! | a bank that is full | one erase, 5 programs, and a copy of each record; then the other bank is live, so the banks wear by turns |
 //! | erases | one in (cells of a bank - slots with a record) puts and openings, and one after two cuts in a row as above |
 //! | reads | an opening: two words of each cell, and ten more of each that counts; a get: two of each cell from the end on |

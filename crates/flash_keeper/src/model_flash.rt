@@ -1,7 +1,7 @@
 //! A bank of flash in memory, in which power can fail, whose torn words read differently each time, and whose bits can decay.
-ghost use Rattle.std.specs.Prelude.{◌≡◌, ◌<◌, ◌≤◌, ◌^◌, length, ℕ, true, false, ◌⊎◌, Some};
+ghost use Rattle.std.specs.Prelude.{◌≡◌, ◌<◌, ◌≤◌, ◌+◌, ◌^◌, length, ℕ, true, false, ◌⊎◌, Some};
 ghost use Rattle.flash_keeper.specs.Flash.{erased, head_word};
-ghost use Rattle.flash_keeper.specs.Model.{bank_of, shown, word_of};
+ghost use Rattle.flash_keeper.specs.Model.{bank_of, shown, counted, word_of};
 
 use crate::bank::{ERASED, FlashBank, HEAD};
 use plc_base::Failed;
@@ -88,20 +88,24 @@ fn no_head(number: u64) -> u64
 
 // A word that is programmed over another one.
 fn whole(old: &ModelWord, value: u64) -> ModelWord
-    ensures { word_of result ≡ Some value }
+    requires { old.now.programs + 1 < 2 ^ 32 }
+    ensures word { word_of result ≡ Some value }
+    ensures count { result.programs ≡ old.now.programs + 1 }
 {
     ModelWord {
         value,
         torn: false,
         before: old.value,
         way: 0,
-        programs: old.programs.saturating_add(1),
+        programs: old.programs + 1,
     }
 }
 
 // What is left of a word in whose program power fails.
 fn cut_short(old: &ModelWord, word: u64, how: Cut, way: u64) -> ModelWord
-    ensures { word_of old.now ≡ Some word → word_of result ≡ Some word }
+    requires { old.now.programs + 1 < 2 ^ 32 }
+    ensures word { word_of old.now ≡ Some word → word_of result ≡ Some word }
+    ensures count { result.programs ≤ old.now.programs + 1 }
 {
     let same = !old.torn && old.value == word;
     let done = whole(old, word);
@@ -231,6 +235,8 @@ impl ModelFlash {
         requires { at < length self.old.words.items }
         ensures here { shown self.new.words.items at ≡ word_of word }
         ensures others { (i : ℕ) → (i ≡ at → ⊥) → shown self.new.words.items i ≡ shown self.old.words.items i }
+        ensures count { counted self.new.words.items at ≡ word.programs }
+        ensures counts { (i : ℕ) → (i ≡ at → ⊥) → counted self.new.words.items i ≡ counted self.old.words.items i }
         ensures size { length self.new.words.items ≡ length self.old.words.items }
         ensures torn { self.new.torn ≡ self.old.torn }
     {
@@ -240,6 +246,7 @@ impl ModelFlash {
     // Erases all words.
     fn blank(&mut self)
         ensures blank { (i : ℕ) → shown self.new.words.items i ≡ Some erased }
+        ensures fresh { (i : ℕ) → counted self.new.words.items i ≡ 0 }
         ensures size { length self.new.words.items ≡ length self.old.words.items }
         ensures torn { self.new.torn ≡ false }
     {
@@ -255,7 +262,8 @@ impl ModelFlash {
     fn erase_partly(&mut self, how: Cut)
         ensures size { length self.new.words.items ≡ length self.old.words.items }
         ensures left { ((self.new.words ≡ self.old.words) × (self.new.torn ≡ self.old.torn)) ⊎ ((self.new.torn ≡ true) × (self.new.words ≡ self.old.words))
-            ⊎ ((self.new.torn ≡ false) × ((i : ℕ) → shown self.new.words.items i ≡ Some erased)) }
+            ⊎ ((self.new.torn ≡ false) × ((i : ℕ) → shown self.new.words.items i ≡ Some erased)
+            × ((i : ℕ) → counted self.new.words.items i ≡ 0)) }
     {
         match how {
             Cut::Before => {}
@@ -347,11 +355,11 @@ impl FlashBank for ModelFlash {
         self.programs = self.programs.saturating_add(1);
         let power = self.power();
         let old = self.words[at];
-        let done = whole(&old, word);
-        if done.programs > self.limit {
+        if old.programs >= self.limit {
             self.failed = true;
             return Err(Failed);
         }
+        let done = whole(&old, word);
         self.most = self.most.max(done.programs);
         let Some(how) = power else {
             self.put(at, done);

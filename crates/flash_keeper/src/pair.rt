@@ -3,9 +3,10 @@ ghost use Rattle.std.specs.Prelude.{◌≡◌, ◌<◌, ◌≤◌, ◌+◌, ◌�
 ghost use Rattle.std.specs.FinMap as map;
 ghost use Rattle.std.specs.FinMap.{insert, len};
 ghost use Rattle.flash_keeper.specs.Flash.{erased, IsBlank, Programs};
-ghost use Rattle.flash_keeper.specs.Log.{room, upto, upto_fence, Choice, IsOneOf, IsSettled, IsLeft, IsClosable, AreCertain, SameBelow, AreDecided};
+ghost use Rattle.flash_keeper.specs.Log.{place, room, upto, upto_fence, Choice, IsOneOf, IsSettled, IsLeft, IsClosable, AreCertain, SameBelow, AreDecided};
 ghost use Rattle.flash_keeper.specs.Banks.{choice_of, AreLeft, AreReady, AreHeld, AreAmong, IsStore, IsLive, IsHeaded, IsDead, IsSeen, IsNumbered};
-ghost use Rattle.flash_keeper.specs.Banks.{are_full};
+ghost use Rattle.flash_keeper.specs.Banks.{are_full, AreWornBoth};
+ghost use Rattle.flash_keeper.specs.Wear.{is_done, one_if, AreWorn, IsWornSpare, IsFresh, Counts, Keeps};
 
 use crate::bank::{FlashBank, HEAD, is_programmed};
 use crate::cells::{cell_count, close_cell, copy_cells, first_blank, settle_before, write_cell};
@@ -80,6 +81,7 @@ fn is_noted<B: FlashBank>(bank: &B) -> bool
 /// Retires a bank, and erases it.
 pub fn wipe<B: FlashBank>(bank: &mut B) -> Result<(), Failed>
     ensures blank { OnOk result (IsBlank (B.bank bank.new)) }
+    ensures worn { OnErr result ((f : ℕ) → IsWornSpare f (B.bank bank.old) → IsWornSpare (f + 1) (B.bank bank.new)) }
     ensures dead { IsDead (B.bank bank.old) → OnErr result (IsDead (B.bank bank.new)) }
     ensures size { (B.bank bank.new).size ≡ (B.bank bank.old).size }
     ensures failed { OnErr result (B.has_failed bank.new ≡ true) }
@@ -93,6 +95,8 @@ fn begin<B: FlashBank>(bank: &mut B, generation: u64) -> Result<(), Failed>
     ensures head { OnOk result (IsHeaded (B.bank bank.new) generation) }
     ensures log { OnOk result (IsSettled (B.bank bank.new) 0) }
     ensures unmarked { OnOk result ((B.bank bank.new).words 2 ≡ Some erased) }
+    ensures fresh { OnOk result (IsFresh (B.bank bank.new) 0) }
+    ensures worn { OnErr result ((f : ℕ) → IsWornSpare f (B.bank bank.old) → IsWornSpare (f + 1) (B.bank bank.new)) }
     ensures dead { IsDead (B.bank bank.old) → OnErr result (IsDead (B.bank bank.new)) }
     ensures size { (B.bank bank.new).size ≡ (B.bank bank.old).size }
     ensures failed { OnErr result (B.has_failed bank.new ≡ true) }
@@ -119,6 +123,8 @@ fn copy_to<B: FlashBank>(
     ensures log { IfOk result (λ n. IsSettled (B.bank to.new) n) }
     ensures records { IfOk result (λ n. upto (B.bank to.new).words n ≡ upto (B.bank from.now).words cells) }
     ensures each { IfOk result (λ n. len (upto (B.bank to.new).words n) ≡ n) }
+    ensures fresh { IfOk result (λ n. IsFresh (B.bank to.new) n) }
+    ensures worn { OnErr result ((f : ℕ) → IsWornSpare f (B.bank to.old) → IsWornSpare (f + 1) (B.bank to.new)) }
     ensures dead { OnErr result (IsDead (B.bank to.new)) }
     ensures failed { OnErr result (B.has_failed to.new ≡ true) }
     ensures size { (B.bank to.new).size ≡ (B.bank to.old).size }
@@ -171,6 +177,11 @@ impl<B: FlashBank + Drop> Pair<B> {
             → IsOneOf (choice_of (B.bank self.old.live) n) (upto (B.bank self.old.live).words cells)
             → AreHeld (B.bank self.new.live) (B.bank self.new.spare) n self.new.copied) }
         ensures same { OnErr result ((i : ℕ) → 3 ≤ i → (B.bank self.new.live).words i ≡ (B.bank self.old.live).words i) }
+        ensures marked { OnOk result ((B.bank self.new.live).programs 2 ≤ 1) }
+        ensures worn { OnOk result ((f : ℕ) → AreWorn f (B.bank self.old.live) (B.bank self.old.spare)
+            → AreWorn f (B.bank self.new.live) (B.bank self.new.spare)) }
+        ensures cut { OnErr result ((f : ℕ) → AreWorn f (B.bank self.old.live) (B.bank self.old.spare)
+            → AreWornBoth (f + 1) (B.bank self.new.live) (B.bank self.new.spare)) }
         ensures failed { OnErr result ((B.has_failed self.new.live ≡ true) ⊎ (B.has_failed self.new.spare ≡ true)) }
     {
         let generation = self.generation.saturating_add(1);
@@ -188,6 +199,10 @@ impl<B: FlashBank + Drop> Pair<B> {
         ensures ready { OnOk result (AreReady (B.bank self.new.live) (B.bank self.new.spare) self.new.next) }
         ensures fresh { OnOk result (self.new.copied ≡ None) }
         ensures blank { OnOk result (IsBlank (B.bank self.new.spare)) }
+        ensures worn { OnOk result ((f : ℕ) → AreWorn f (B.bank self.old.live) (B.bank self.old.spare)
+            → AreWorn f (B.bank self.new.live) (B.bank self.new.spare)) }
+        ensures cut { OnErr result ((f : ℕ) → AreWorn f (B.bank self.old.live) (B.bank self.old.spare)
+            → AreWornBoth (f + 1) (B.bank self.new.live) (B.bank self.new.spare)) }
         ensures each { OnOk result (len (upto (B.bank self.new.live).words self.new.next) ≡ self.new.next) }
         ensures records { upto (B.bank self.new.live).words self.new.next ≡ upto (B.bank self.old.live).words self.old.next }
         ensures held { OnErr result (AreHeld (B.bank self.new.live) (B.bank self.new.spare) self.new.next self.new.copied) }
@@ -205,6 +220,10 @@ impl<B: FlashBank + Drop> Pair<B> {
         ensures ready { OnOk result (AreReady (B.bank self.new.live) (B.bank self.new.spare) self.new.next) }
         ensures fresh { OnOk result (self.new.copied ≡ None) }
         ensures room { OnOk result (self.new.next < room (B.bank self.new.live).size) }
+        ensures worn { OnOk result ((f : ℕ) → AreWorn f (B.bank self.old.live) (B.bank self.old.spare)
+            → AreWorn f (B.bank self.new.live) (B.bank self.new.spare)) }
+        ensures cut { OnErr result ((f : ℕ) → AreWorn f (B.bank self.old.live) (B.bank self.old.spare)
+            → AreWornBoth (f + 1) (B.bank self.new.live) (B.bank self.new.spare)) }
         ensures records { upto (B.bank self.new.live).words self.new.next ≡ upto (B.bank self.old.live).words self.old.next }
         ensures held { OnErr result (AreHeld (B.bank self.new.live) (B.bank self.new.spare) self.new.next self.new.copied) }
         ensures found { OnErr result (upto_fence (B.bank self.new.live).words self.new.next ≡ upto (B.bank self.old.live).words self.old.next) }
@@ -236,6 +255,10 @@ impl<B: FlashBank + Drop> Pair<B> {
         ensures found { OnErr result ((upto_fence (B.bank self.new.live).words self.new.next ≡ upto (B.bank self.old.live).words self.old.next)
             ⊎ (upto_fence (B.bank self.new.live).words self.new.next ≡ insert (upto (B.bank self.old.live).words self.old.next) slot octets.now)) }
         ensures same { OnErr result (upto (B.bank self.new.live).words self.new.next ≡ upto (B.bank self.old.live).words self.old.next) }
+        ensures worn { OnOk result ((f : ℕ) → AreWorn f (B.bank self.old.live) (B.bank self.old.spare)
+            → AreWorn f (B.bank self.new.live) (B.bank self.new.spare)) }
+        ensures cut { OnErr result ((f : ℕ) → AreWorn f (B.bank self.old.live) (B.bank self.old.spare)
+            → AreWornBoth (f + 1) (B.bank self.new.live) (B.bank self.new.spare)) }
         ensures failed { OnErr result ((B.has_failed self.new.live ≡ true) ⊎ (B.has_failed self.new.spare ≡ true)) }
     {
         write_cell(&mut self.live, self.next, slot, octets)?;
@@ -257,6 +280,10 @@ impl<B: FlashBank + Drop> Pair<B> {
         ensures found { OnErr result ((upto_fence (B.bank self.new.live).words self.new.next ≡ upto (B.bank self.old.live).words self.old.next)
             ⊎ (upto_fence (B.bank self.new.live).words self.new.next ≡ insert (upto (B.bank self.old.live).words self.old.next) slot octets.now)) }
         ensures same { OnErr result (upto (B.bank self.new.live).words self.new.next ≡ upto (B.bank self.old.live).words self.old.next) }
+        ensures worn { OnOk result ((f : ℕ) → AreWorn f (B.bank self.old.live) (B.bank self.old.spare)
+            → AreWorn f (B.bank self.new.live) (B.bank self.new.spare)) }
+        ensures cut { OnErr result ((f : ℕ) → AreWorn f (B.bank self.old.live) (B.bank self.old.spare)
+            → AreWornBoth (f + 1) (B.bank self.new.live) (B.bank self.new.spare)) }
         ensures failed { OnErr result ((B.has_failed self.new.live ≡ true) ⊎ (B.has_failed self.new.spare ≡ true)
             ⊎ (are_full (B.bank self.new.live) self.new.next ≡ true)) }
     {
@@ -275,6 +302,10 @@ impl<B: FlashBank + Drop> Pair<B> {
         ensures size { (B.bank self.new.live).size ≡ (B.bank self.old.live).size }
         ensures spare { B.bank self.new.spare ≡ B.bank self.old.spare }
         ensures copied { self.new.copied ≡ self.old.copied }
+        ensures counts { Counts (place at) (place at + 12) (B.bank self.old.live) (B.bank self.new.live) }
+        ensures keeps { Keeps (B.bank self.old.live) (B.bank self.new.live) }
+        ensures done { OnOk result (at < room (B.bank self.old.live).size → is_done (B.bank self.new.live).words at ≡ true) }
+        ensures at { OnOk result (at ≤ self.new.next) }
         ensures next { OnErr result (self.new.next ≡ self.old.next) }
         ensures failed { OnErr result ((B.has_failed self.new.live ≡ true) ⊎ (B.has_failed self.new.spare ≡ true)) }
     {
@@ -302,6 +333,10 @@ impl<B: FlashBank + Drop> Pair<B> {
             → IsOneOf c (upto (B.bank self.new.live).words self.new.next)) }
         ensures in_place { (c : Choice) (n : ℕ) → IsLeft (B.bank self.old.live) n c → AreDecided (B.bank self.old.live).words n
             → B.bank self.new.spare ≡ B.bank self.old.spare }
+        ensures worn { OnOk result ((f : ℕ) → self.new.next < room (B.bank self.new.live).size
+            → AreWorn f (B.bank self.old.live) (B.bank self.old.spare) → AreWorn f (B.bank self.new.live) (B.bank self.new.spare)) }
+        ensures once { (f : ℕ) → AreWorn f (B.bank self.old.live) (B.bank self.old.spare)
+            → AreWornBoth (f + 1) (B.bank self.new.live) (B.bank self.new.spare) }
         ensures left { OnErr result ((c : Choice) (n : ℕ) → IsLeft (B.bank self.old.live) n c → IsStore (B.bank self.new.live) (B.bank self.new.spare) c) }
         ensures held { OnErr result ((c : Choice) → IsLeft (B.bank self.old.live) self.old.next c
             → AreHeld (B.bank self.new.live) (B.bank self.new.spare) self.new.next self.new.copied × AreAmong c (B.bank self.new.live) self.new.next) }
@@ -326,6 +361,10 @@ impl<B: FlashBank + Drop> Pair<B> {
             → AreLeft (B.bank self.new.live) (B.bank self.new.spare) n c }
         ensures noted { (B.bank self.old.spare).torn ≡ false → (B.bank self.old.spare).words 1 ≡ Some 0 → self.new ≡ self.old }
         ensures once { OnOk result ((self.new ≡ self.old) ⊎ ((B.bank self.new.spare).words 1 ≡ Some 0)) }
+        ensures worn { OnOk result ((f : ℕ) → AreWorn f (B.bank self.old.live) (B.bank self.old.spare)
+            → AreWorn (f + one_if (B.bank self.old.spare).torn) (B.bank self.new.live) (B.bank self.new.spare)) }
+        ensures cut { OnErr result ((f : ℕ) → AreWornBoth f (B.bank self.old.live) (B.bank self.old.spare)
+            → AreWornBoth (f + 1) (B.bank self.new.live) (B.bank self.new.spare)) }
         ensures cells { (i : ℕ) → 3 ≤ i → (B.bank self.new.live).words i ≡ (B.bank self.old.live).words i }
         ensures others { (i : ℕ) → 2 ≤ i → (B.bank self.new.spare).words i ≡ (B.bank self.old.spare).words i }
         ensures live_size { (B.bank self.new.live).size ≡ (B.bank self.old.live).size }
@@ -354,6 +393,11 @@ impl<B: FlashBank + Drop> Pair<B> {
             → IsOneOf c (upto (B.bank self.new.live).words self.new.next)) }
         ensures in_place { (n : ℕ) (c : Choice) → AreLeft (B.bank self.old.live) (B.bank self.old.spare) n c → AreDecided (B.bank self.old.live).words n
             → (i : ℕ) → 2 ≤ i → (B.bank self.new.spare).words i ≡ (B.bank self.old.spare).words i }
+        ensures worn { OnOk result ((f : ℕ) → self.new.next < room (B.bank self.new.live).size
+            → AreWorn f (B.bank self.old.live) (B.bank self.old.spare)
+            → AreWorn (f + one_if (B.bank self.old.spare).torn) (B.bank self.new.live) (B.bank self.new.spare)) }
+        ensures twice { (f : ℕ) → AreWornBoth f (B.bank self.old.live) (B.bank self.old.spare)
+            → AreWornBoth (f + one_if (B.bank self.old.spare).torn + 1) (B.bank self.new.live) (B.bank self.new.spare) }
         ensures left { OnErr result ((n : ℕ) (c : Choice) → AreLeft (B.bank self.old.live) (B.bank self.old.spare) n c
             → IsStore (B.bank self.new.live) (B.bank self.new.spare) c) }
         ensures held { OnErr result (AreLeft (B.bank self.old.live) (B.bank self.old.spare) self.old.next (choice_of (B.bank self.old.live) self.old.next)
@@ -372,6 +416,8 @@ impl<B: FlashBank + Drop> Pair<B> {
         ensures ready { OnOk result (AreReady (B.bank self.new.live) (B.bank self.new.spare) self.new.next) }
         ensures fresh { OnOk result (self.new.copied ≡ None) }
         ensures records { OnOk result (IsOneOf (choice_of (B.bank self.old.live) self.old.next) (upto (B.bank self.new.live).words self.new.next)) }
+        ensures twice { (f : ℕ) → AreWornBoth f (B.bank self.old.live) (B.bank self.old.spare)
+            → AreWornBoth (f + 2) (B.bank self.new.live) (B.bank self.new.spare) }
         ensures held { OnErr result (AreHeld (B.bank self.new.live) (B.bank self.new.spare) self.new.next self.new.copied) }
         ensures among { OnErr result (AreAmong (choice_of (B.bank self.old.live) self.old.next) (B.bank self.new.live) self.new.next) }
         ensures failed { OnErr result ((B.has_failed self.new.live ≡ true) ⊎ (B.has_failed self.new.spare ≡ true)) }
@@ -391,6 +437,7 @@ impl<B: FlashBank + Drop> Pair<B> {
         ensures fresh { OnOk result (self.new.copied ≡ None) }
         ensures records { OnOk result (upto (B.bank self.new.live).words self.new.next ≡ map.empty) }
         ensures next { OnOk result (self.new.next ≡ 0) }
+        ensures worn { OnOk result (AreWorn 0 (B.bank self.new.live) (B.bank self.new.spare)) }
         ensures blank { OnOk result (IsBlank (B.bank self.new.spare)) }
         ensures failed { OnErr result ((B.has_failed self.new.live ≡ true) ⊎ (B.has_failed self.new.spare ≡ true)) }
     {

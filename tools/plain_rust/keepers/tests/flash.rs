@@ -380,7 +380,7 @@ fn a_word_is_programmed_a_few_times_between_erases() {
     let chip = Chip::of_cells(30, 1);
     let mut keeper = chip.format(5);
     let mut judge = Judge::default();
-    for boot in 0..300u32 {
+    for boot in 0..1000u32 {
         for put in 0..boot % 5 {
             assert!(judge.put(&mut keeper, 1 + put, vec![boot as u8; 20]));
         }
@@ -389,6 +389,27 @@ fn a_word_is_programmed_a_few_times_between_erases() {
     }
     println!("most programs of a word {}", chip.most_programs());
     assert!(chip.most_programs() <= 4);
+}
+
+/// No cell is left that an opening could close, so it makes the last mark firm each time; the next put copies the log to the other bank.
+#[test]
+fn starts_at_a_full_log_program_its_last_mark_each_time() {
+    let chip = Chip::of_cells(30, 1);
+    let mut keeper = chip.format(5);
+    let mut judge = Judge::default();
+    for put in 0..30 {
+        assert!(judge.put(&mut keeper, 1 + put % 5, vec![put as u8; 20]));
+    }
+    let erases = chip.erases();
+    assert_eq!(chip.most_programs(), 1);
+    for boot in 1..=40 {
+        keeper = chip.open(boot % 2 == 0).unwrap();
+        judge.opened(&keeper, 5, &format!("boot {boot}"));
+        assert_eq!(chip.most_programs(), 1 + boot);
+    }
+    assert_eq!(chip.erases(), erases);
+    assert!(judge.put(&mut keeper, 1, vec![0; 20]));
+    assert_eq!(chip.erases(), erases + 1);
 }
 
 #[test]

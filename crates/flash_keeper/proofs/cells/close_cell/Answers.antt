@@ -3,6 +3,7 @@ use Rattle.flash_keeper.specs.Flash.{Programs}
 use Rattle.flash_keeper.specs.Log.{close}
 use Rattle.flash_keeper.proofs.Outcomes.{on_ok_of}
 use Rattle.flash_keeper.proofs.LogLemmas.{settled_closed, left_closed}
+use Rattle.flash_keeper.proofs.WearLemmas.{same_words}
 use Rattle.flash_keeper.proofs.cells.close_cell.Goals as goal
 
 pub returns-clause-settled : goal.returns-clause-settled
@@ -21,3 +22,16 @@ returns-clause-left g c =
     let p : Programs (close c.args.cell) 0 (is_ok c.program.result) old new =
     subst (λ (n : ℕ). Programs n 0 (is_ok c.program.result) old new) (ap (λ (n : ℕ). n + 9) c.place_of.ensures) c.program.ensures.programs in
     λ choice left unmarked. left_closed old new c.args.cell choice (is_ok c.program.result) c.requires.within left unmarked p
+
+pub returns-clause-programs : goal.returns-clause-programs
+returns-clause-programs g c =
+    let old = g.B.FlashBank.bank c.args.bank.now in
+    let new = g.B.FlashBank.bank c.program.new.self in
+    subst (λ (n : ℕ). Programs n 0 (is_ok c.program.result) old new) (ap (λ (n : ℕ). n + 9) c.place_of.ensures) c.program.ensures.programs
+
+pub returns-clause-same : goal.returns-clause-same
+returns-clause-same g c =
+    let old = g.B.FlashBank.bank c.args.bank.now in
+    let new = g.B.FlashBank.bank c.program.new.self in
+    same_words old new (close c.args.cell) 0 (is_ok c.program.result)
+    (subst (λ (n : ℕ). Programs n 0 (is_ok c.program.result) old new) (ap (λ (n : ℕ). n + 9) c.place_of.ensures) c.program.ensures.programs)

@@ -1,8 +1,9 @@
-use Rattle.std.proofs.Common.{◌∙◌, ℕ, ◌+◌, ◌-◌, sym, ap}
+use Rattle.std.proofs.Common.{◌∙◌, ℕ, ◌+◌, ◌-◌, sym, ap, arith}
 use Rattle.std.specs.FinMap.{insert, len}
 use Rattle.plc_base.specs.Keeper.{Records}
-use Rattle.flash_keeper.specs.Log.{holds_later}
+use Rattle.flash_keeper.specs.Log.{place, holds_later}
 use Rattle.flash_keeper.proofs.CopyLemmas.{kept-uncounted, kept-replaced, kept-counted, kept-one_more}
+use Rattle.flash_keeper.proofs.WearLemmas.{no_counts, wider_counts}
 use Rattle.flash_keeper.proofs.cells.copy_cell.Goals as goal
 
 pub returns-then-not-is_marked-clause-records : goal.returns-then-not-is_marked-clause-records
@@ -55,3 +56,18 @@ returns-clause-each g c =
     (ap (λ (s : ℕ). holds_later words (cell + 1) (cells - (cell + 1)) s) (sym c.slot_of-slot.ensures) ∙ sym c.is_replaced.ensures
     ∙ c.if-is_replaced.false)
     ∙ ap (λ (m : ℕ). m + 1) c.requires.each
+
+pub returns-then-not-is_marked-clause-counts : goal.returns-then-not-is_marked-clause-counts
+returns-then-not-is_marked-clause-counts g c = no_counts (g.B.FlashBank.bank c.args.to.now) (place c.args.next) (place c.args.next)
+
+pub returns-then-is_replaced-clause-counts : goal.returns-then-is_replaced-clause-counts
+returns-then-is_replaced-clause-counts g c = no_counts (g.B.FlashBank.bank c.args.to.now) (place c.args.next) (place c.args.next)
+
+pub returns-then-not-is_right-clause-begun : goal.returns-then-not-is_right-clause-begun
+returns-then-not-is_right-clause-begun g c = no_counts (g.B.FlashBank.bank c.args.to.now) (place c.args.next) (place c.args.next + 12)
+
+pub returns-clause-counts : goal.returns-clause-counts
+returns-clause-counts g c =
+    let n = c.args.next in
+    wider_counts (g.B.FlashBank.bank c.args.to.now) (g.B.FlashBank.bank c.write_cell.new.bank) (place n) (place n + 12) (place n) (place (n + 1)) (omega arith)
+    (omega arith) c.write_cell.ensures.counts

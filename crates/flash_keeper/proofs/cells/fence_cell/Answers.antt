@@ -12,3 +12,9 @@ returns-clause-left g c =
     let p : Programs (fence c.args.cell) 0 (is_ok c.program.result) old new = subst (λ (n : ℕ). Programs n 0 (is_ok c.program.result) old new) at
     c.program.ensures.programs in
     λ choice left. left_fenced old new c.args.cell choice (is_ok c.program.result) c.requires.within left c.requires.fenced p
+
+pub returns-clause-programs : goal.returns-clause-programs
+returns-clause-programs g c =
+    let old = g.B.FlashBank.bank c.args.bank.now in
+    let new = g.B.FlashBank.bank c.program.new.self in
+    subst (λ (n : ℕ). Programs n 0 (is_ok c.program.result) old new) (ap (λ (n : ℕ). n + 10) c.place_of.ensures) c.program.ensures.programs

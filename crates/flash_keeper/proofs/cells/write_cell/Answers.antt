@@ -1,8 +1,9 @@
-use Rattle.std.proofs.Common.{◌∙◌, ℕ, ◌+◌, Bool, is_ok, subst, ap, sym}
+use Rattle.std.proofs.Common.{◌∙◌, ℕ, ◌+◌, Bool, is_ok, subst, ap, sym, arith}
 use Rattle.flash_keeper.specs.Flash.{Programs}
-use Rattle.flash_keeper.specs.Log.{mark}
+use Rattle.flash_keeper.specs.Log.{place, mark}
 use Rattle.flash_keeper.proofs.Outcomes.{on_ok_of, on_err}
 use Rattle.flash_keeper.proofs.LogLemmas.{BodyIs, left_at_body, left_at_mark, records_marked, settled_marked}
+use Rattle.flash_keeper.proofs.WearLemmas.{no_counts, program_counts, then_counts, wider_counts}
 use Rattle.flash_keeper.proofs.cells.write_cell.Goals as goal
 
 pub returns-in_err-write_body-clause-left : goal.returns-in_err-write_body-clause-left
@@ -63,3 +64,22 @@ returns-clause-settled g c =
     11) c.place_of.ensures) c.program.ensures.programs in
     on_ok_of c.program.result (λ ok. settled_marked old b new c.args.cell c.args.slot c.args.octets.now c.requires.settled c.requires.room body
     (subst (λ (k : Bool). Programs (mark c.args.cell) 0 k b new) ok p))
+
+pub returns-then-not-is_clean-clause-counts : goal.returns-then-not-is_clean-clause-counts
+returns-then-not-is_clean-clause-counts g c = no_counts (g.B.FlashBank.bank c.args.bank.now) (place c.args.cell) (place c.args.cell + 12)
+
+pub returns-in_err-write_body-clause-counts : goal.returns-in_err-write_body-clause-counts
+returns-in_err-write_body-clause-counts g c =
+    let k = c.args.cell in
+    wider_counts (g.B.FlashBank.bank c.args.bank.now) (g.B.FlashBank.bank c.write_body.new.bank) (place k) (mark k) (place k) (place k + 12) (omega arith)
+    (omega arith) c.write_body.ensures.counts
+
+pub returns-clause-counts : goal.returns-clause-counts
+returns-clause-counts g c =
+    let k = c.args.cell in
+    let a = g.B.FlashBank.bank c.args.bank.now in
+    let b = g.B.FlashBank.bank c.write_body.new.bank in
+    let e = g.B.FlashBank.bank c.program.new.self in
+    then_counts a b e (place k) (mark k) (place k + 12) (omega arith) (omega arith) c.write_body.ensures.counts
+    (program_counts b e (c.place_of.result + 11) 0 (mark k) (place k + 12) (is_ok c.program.result) (omega (arith, c.place_of.ensures))
+    (omega (arith, c.place_of.ensures)) c.program.ensures.programs)

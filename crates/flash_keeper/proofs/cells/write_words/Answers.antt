@@ -1,9 +1,10 @@
-use Rattle.std.proofs.Common.{◌≡◌, ℕ, ◌+◌, true}
+use Rattle.std.proofs.Common.{◌≡◌, ℕ, ◌+◌, true, false}
 use Rattle.std.proofs.Common.{refl, subst, ap, ◌∙◌, arith}
 use Rattle.flash_keeper.specs.Flash.{Programs}
-use Rattle.flash_keeper.specs.Log.{place}
+use Rattle.flash_keeper.specs.Log.{place, close}
 use Rattle.flash_keeper.proofs.CellLemmas.{octets_from-zero}
 use Rattle.flash_keeper.proofs.LogLemmas.{one_more_word}
+use Rattle.flash_keeper.proofs.WearLemmas.{no_counts, program_counts, then_counts, wider_counts}
 use Rattle.flash_keeper.proofs.cells.write_words.Goals as goal
 
 pub loop-i-init : goal.loop-i-init
@@ -13,6 +14,7 @@ loop-i-init g c =
       firm = c.requires.firm;
       size = refl;
       same = λ i h. refl;
+      counts = no_counts (g.B.FlashBank.bank c.args.bank.now) (place c.args.cell + 1) (place c.args.cell + 1 + 0);
       octets = octets_from-zero words (place c.args.cell + 1);
       body = λ j le. absurd (omega (arith, le));
       below = omega arith;
@@ -24,6 +26,7 @@ loop-i-preserved g c =
     let old = g.B.FlashBank.bank c.loop-i.bank in
     let new = g.B.FlashBank.bank c.program_word.new.bank in
     let i = c.loop-i.i in
+    let at_first : ℕ = place c.args.cell + 1 in
     let at : c.place_of-at.result + 1 + i ≡ place c.args.cell + 1 + i = ap (λ (n : ℕ). n + 1 + i) c.place_of-at.ensures in
     let p : Programs (place c.args.cell + 1 + i) c.word_at.result true old new = subst (λ (n : ℕ). Programs n c.word_at.result true old new) at
     c.in_ok-program_word.ensures.programs in
@@ -33,7 +36,28 @@ loop-i-preserved g c =
       firm = p.torn ∙ c.loop-i.invariant.firm;
       size = p.size ∙ c.loop-i.invariant.size;
       same = more.0;
+      counts = then_counts init old new at_first (at_first + i) (at_first + (i + 1)) (omega arith) (omega arith) c.loop-i.invariant.counts
+          (program_counts old new (at_first + i) c.word_at.result (at_first + i) (at_first + (i + 1)) true (omega arith) (omega arith) p);
       octets = more.1;
       body = more.2;
       below = omega (arith, c.loop-i-test.true);
     }
+
+pub returns-in_err-program_word-clause-counts : goal.returns-in_err-program_word-clause-counts
+returns-in_err-program_word-clause-counts g c =
+    let init = g.B.FlashBank.bank c.args.bank.now in
+    let old = g.B.FlashBank.bank c.loop-i.bank in
+    let new = g.B.FlashBank.bank c.program_word.new.bank in
+    let i = c.loop-i.i in
+    let first : ℕ = place c.args.cell + 1 in
+    let at : c.place_of-at.result + 1 + i ≡ first + i = ap (λ (n : ℕ). n + 1 + i) c.place_of-at.ensures in
+    let p : Programs (first + i) c.word_at.result false old new = subst (λ (n : ℕ). Programs n c.word_at.result false old new) at
+    c.in_err-program_word.ensures.programs in
+    then_counts init old new first (first + i) (close c.args.cell) (omega arith) (omega (arith, c.loop-i-test.true)) c.loop-i.invariant.counts
+    (program_counts old new (first + i) c.word_at.result (first + i) (close c.args.cell) false (omega arith) (omega (arith, c.loop-i-test.true)) p)
+
+pub returns-clause-counts : goal.returns-clause-counts
+returns-clause-counts g c =
+    let first : ℕ = place c.args.cell + 1 in
+    wider_counts (g.B.FlashBank.bank c.args.bank.now) (g.B.FlashBank.bank c.loop-i.bank) first (first + c.loop-i.i) first (close c.args.cell) (omega arith)
+    (omega (arith, c.loop-i.invariant.below)) c.loop-i.invariant.counts

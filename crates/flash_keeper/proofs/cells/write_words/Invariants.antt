@@ -1,5 +1,6 @@
 use Rattle.std.proofs.Common.{◌≡◌, ◌≤◌, ◌<◌, ◌+◌, ◌*◌, ◌-◌, false, ℕ, take}
 use Rattle.flash_keeper.specs.Log.{place, octets_from, SameOutside, IsFirm}
+use Rattle.flash_keeper.specs.Wear.{Counts}
 use Rattle.flash_keeper.proofs.cells.write_words.Given as goal
 
 abbrev pub invariant-loop-i : goal.invariant-loop-i
@@ -10,6 +11,7 @@ invariant-loop-i g l =
       firm : new.torn ≡ false;
       size : new.size ≡ old.size;
       same : SameOutside (place l.cell + 1) (place l.cell + 1 + l.i) old new;
+      counts : Counts (place l.cell + 1) (place l.cell + 1 + l.i) old new;
       octets : octets_from new.words (place l.cell + 1) l.i ≡ take (8 * l.i) l.octets;
       body : (j : ℕ) → j < l.i → IsFirm (new.words (place l.cell + 1 + j));
       below : l.i ≤ 8;

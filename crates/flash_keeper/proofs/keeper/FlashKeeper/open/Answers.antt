@@ -1,6 +1,7 @@
-use Rattle.std.proofs.Common.{inl, inr, sym}
+use Rattle.std.proofs.Common.{inl, inr, sym, arith}
 use Rattle.flash_keeper.proofs.Outcomes.{one_if_ok, one_if_err}
 use Rattle.flash_keeper.proofs.BankLemmas.{choose, choose_second, chosen, chosen_second, decayed_is, decayed_second, cause_of}
+use Rattle.flash_keeper.proofs.MeasureLemmas.{with_of, with_of_second, torn_first, torn_second}
 use Rattle.flash_keeper.proofs.keeper.FlashKeeper.open.Goals as goal
 
 pub settled-requires-clause-left : goal.settled-requires-clause-left
@@ -142,3 +143,59 @@ returns-clause-left g c = one_if_err c.settled-2.result (λ e f choice store.
     let left = choose (g.B.FlashBank.bank c.args.first) (g.B.FlashBank.bank c.args.second) choice
     c.in-Some.earlier c.generation_of-one.result c.generation_of-one.ensures c.in-Some.is store in
     f left.0 choice left.1) c.settled-2.ensures.left
+
+pub returns-in_default-clause-worn : goal.returns-in_default-clause-worn
+returns-in_default-clause-worn g c =
+    let least = with_of_second (g.B.FlashBank.bank c.args.second) (g.B.FlashBank.bank c.args.first) c.in-Some-two.later c.generation_of-two.result
+    c.generation_of-two.ensures c.in-Some-two.is in
+    let torn = torn_first (g.B.FlashBank.bank c.args.first).torn (g.B.FlashBank.bank c.args.second).torn in
+    one_if_ok c.settled.result (λ x most. omega (arith, most, least, torn)) c.settled.ensures.worn
+
+pub returns-in_default-clause-cut : goal.returns-in_default-clause-cut
+returns-in_default-clause-cut g c =
+    let least = with_of_second (g.B.FlashBank.bank c.args.second) (g.B.FlashBank.bank c.args.first) c.in-Some-two.later c.generation_of-two.result
+    c.generation_of-two.ensures c.in-Some-two.is in
+    let torn = torn_first (g.B.FlashBank.bank c.args.first).torn (g.B.FlashBank.bank c.args.second).torn in
+    one_if_err c.settled.result (λ x most. omega (arith, most, least, torn)) c.settled.ensures.cut
+
+pub returns-in_default-two-2-clause-worn : goal.returns-in_default-two-2-clause-worn
+returns-in_default-two-2-clause-worn g c =
+    let least = with_of (g.B.FlashBank.bank c.args.first) (g.B.FlashBank.bank c.args.second) c.in-Some.earlier c.generation_of-one.result
+    c.generation_of-one.ensures c.in-Some.is in
+    let torn = torn_second (g.B.FlashBank.bank c.args.first).torn (g.B.FlashBank.bank c.args.second).torn in
+    one_if_ok c.settled-in_default-two-2.result (λ x most. omega (arith, most, least, torn)) c.settled-in_default-two-2.ensures.worn
+
+pub returns-in_default-two-2-clause-cut : goal.returns-in_default-two-2-clause-cut
+returns-in_default-two-2-clause-cut g c =
+    let least = with_of (g.B.FlashBank.bank c.args.first) (g.B.FlashBank.bank c.args.second) c.in-Some.earlier c.generation_of-one.result
+    c.generation_of-one.ensures c.in-Some.is in
+    let torn = torn_second (g.B.FlashBank.bank c.args.first).torn (g.B.FlashBank.bank c.args.second).torn in
+    one_if_err c.settled-in_default-two-2.result (λ x most. omega (arith, most, least, torn)) c.settled-in_default-two-2.ensures.cut
+
+pub returns-then-earlier-later-clause-worn : goal.returns-then-earlier-later-clause-worn
+returns-then-earlier-later-clause-worn g c =
+    let least = with_of_second (g.B.FlashBank.bank c.args.second) (g.B.FlashBank.bank c.args.first) c.in-Some-two-2.later c.generation_of-two.result
+    c.generation_of-two.ensures c.in-Some-two-2.is in
+    let torn = torn_first (g.B.FlashBank.bank c.args.first).torn (g.B.FlashBank.bank c.args.second).torn in
+    one_if_ok c.settled-then-earlier-later.result (λ x most. omega (arith, most, least, torn)) c.settled-then-earlier-later.ensures.worn
+
+pub returns-then-earlier-later-clause-cut : goal.returns-then-earlier-later-clause-cut
+returns-then-earlier-later-clause-cut g c =
+    let least = with_of_second (g.B.FlashBank.bank c.args.second) (g.B.FlashBank.bank c.args.first) c.in-Some-two-2.later c.generation_of-two.result
+    c.generation_of-two.ensures c.in-Some-two-2.is in
+    let torn = torn_first (g.B.FlashBank.bank c.args.first).torn (g.B.FlashBank.bank c.args.second).torn in
+    one_if_err c.settled-then-earlier-later.result (λ x most. omega (arith, most, least, torn)) c.settled-then-earlier-later.ensures.cut
+
+pub returns-clause-worn : goal.returns-clause-worn
+returns-clause-worn g c =
+    let least = with_of (g.B.FlashBank.bank c.args.first) (g.B.FlashBank.bank c.args.second) c.in-Some.earlier c.generation_of-one.result
+    c.generation_of-one.ensures c.in-Some.is in
+    let torn = torn_second (g.B.FlashBank.bank c.args.first).torn (g.B.FlashBank.bank c.args.second).torn in
+    one_if_ok c.settled-2.result (λ x most. omega (arith, most, least, torn)) c.settled-2.ensures.worn
+
+pub returns-clause-cut : goal.returns-clause-cut
+returns-clause-cut g c =
+    let least = with_of (g.B.FlashBank.bank c.args.first) (g.B.FlashBank.bank c.args.second) c.in-Some.earlier c.generation_of-one.result
+    c.generation_of-one.ensures c.in-Some.is in
+    let torn = torn_second (g.B.FlashBank.bank c.args.first).torn (g.B.FlashBank.bank c.args.second).torn in
+    one_if_err c.settled-2.result (λ x most. omega (arith, most, least, torn)) c.settled-2.ensures.cut

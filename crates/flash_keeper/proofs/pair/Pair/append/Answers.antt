@@ -3,6 +3,7 @@ use Rattle.std.specs.FinMap.{insert}
 use Rattle.flash_keeper.specs.Log.{upto, Choice}
 use Rattle.flash_keeper.proofs.Outcomes.{on_err}
 use Rattle.flash_keeper.proofs.BankLemmas.{front_of_cells, held_beside_dead, numbered-same}
+use Rattle.flash_keeper.proofs.WearLemmas.{put_keeps, worn_more, put_is_worn}
 use Rattle.flash_keeper.proofs.pair.Pair.append.Goals as goal
 
 pub returns-in_err-write_cell-clause-held : goal.returns-in_err-write_cell-clause-held
@@ -29,3 +30,19 @@ pub returns-in_err-write_cell-clause-same : goal.returns-in_err-write_cell-claus
 returns-in_err-write_cell-clause-same g c =
     on_err c.from_residual.result (front_of_cells (g.B.FlashBank.bank c.args.self.now.live) (g.B.FlashBank.bank c.write_cell.new.bank) c.args.self.now.next
     c.write_cell.ensures.same)
+
+pub returns-in_err-write_cell-clause-cut : goal.returns-in_err-write_cell-clause-cut
+returns-in_err-write_cell-clause-cut g c =
+    let old = g.B.FlashBank.bank c.args.self.now.live in
+    let new = g.B.FlashBank.bank c.write_cell.new.bank in
+    on_err c.from_residual.result (λ f is. (
+      worn_more f old new (g.B.FlashBank.bank c.args.self.now.spare)
+          (put_keeps old new c.args.self.now.next c.requires.ready.log c.write_cell.ensures.same c.write_cell.ensures.size) c.write_cell.ensures.counts.once is,
+      inl c.requires.ready.beside,
+    ))
+
+pub returns-clause-worn : goal.returns-clause-worn
+returns-clause-worn g c = λ f is.
+    put_is_worn f c.args.self.now.next (g.B.FlashBank.bank c.args.self.now.live) (g.B.FlashBank.bank c.write_cell.new.bank)
+    (g.B.FlashBank.bank c.args.self.now.spare)
+    c.requires.ready.log c.in_ok-write_cell.ensures.settled c.write_cell.ensures.same c.write_cell.ensures.size c.write_cell.ensures.counts is

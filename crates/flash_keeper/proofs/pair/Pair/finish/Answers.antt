@@ -1,10 +1,12 @@
-use Rattle.std.proofs.Common.{◌∙◌, ℕ, inl, sym, subst, ap, arith}
+use Rattle.std.proofs.Common.{◌∙◌, ℕ, inl, sym, subst, ap, arith, ◌+◌, ◌-◌, ◌<◌}
 use Rattle.flash_keeper.specs.Flash.{Bank}
-use Rattle.flash_keeper.specs.Log.{IsLeft}
-use Rattle.flash_keeper.specs.Banks.{AreHeld, AreAmong}
-use Rattle.flash_keeper.proofs.Outcomes.{on_err, one_ok, one_err, both_err, three_err}
+use Rattle.flash_keeper.specs.Log.{IsLeft, place, room}
+use Rattle.flash_keeper.specs.Banks.{AreHeld, AreAmong, AreWornBoth}
+use Rattle.flash_keeper.proofs.Outcomes.{on_err, one_ok, one_err, both_err, three_err, of_both, both_ok}
 use Rattle.flash_keeper.proofs.LogLemmas.{one_of}
 use Rattle.flash_keeper.proofs.BankLemmas.{store_left, dead_moved, numbered-same, held_beside_dead}
+use Rattle.flash_keeper.specs.Wear.{AreWorn}
+use Rattle.flash_keeper.proofs.WearLemmas.{worn_more, both_beside_dead, opened_is_worn, found_undone, found_next, then_keeps, then_counts}
 use Rattle.flash_keeper.proofs.pair.Pair.finish.Goals as goal
 
 pub returns-in_err-sure-clause-left : goal.returns-in_err-sure-clause-left
@@ -117,3 +119,57 @@ returns-clause-held g c =
     (subst (λ (k : ℕ). IsLeft live k choice) (sym next) (f choice closable))
     (dead_moved _ _ c.finish_at.ensures.spare c.requires.spare) (c.finish_at.ensures.copied ∙ c.requires.fresh))
     c.finish_at.ensures.left c.finish_at.ensures.next
+
+pub returns-in_err-sure-clause-once : goal.returns-in_err-sure-clause-once
+returns-in_err-sure-clause-once g c = λ f is. (
+  worn_more f (g.B.FlashBank.bank c.args.self.now.live) (g.B.FlashBank.bank c.settle_before.new.bank) (g.B.FlashBank.bank c.args.self.now.spare)
+      c.settle_before.ensures.keeps
+      c.settle_before.ensures.counts.once is,
+  inl c.requires.spare,
+)
+
+pub returns-then-not-sure-clause-worn : goal.returns-then-not-sure-clause-worn
+returns-then-not-sure-clause-worn g c = one_ok c.rewrite.result (λ worn f fits is.
+    worn f (subst (λ (b : Bank). AreWorn f b (g.B.FlashBank.bank c.args.self.now.spare)) (sym (c.in_ok-sure.ensures.same c.if-not-sure.true)) is))
+    c.rewrite.ensures.worn
+
+pub returns-then-not-sure-clause-once : goal.returns-then-not-sure-clause-once
+returns-then-not-sure-clause-once g c = λ f is.
+    let was = subst (λ (b : Bank). AreWorn f b (g.B.FlashBank.bank c.args.self.now.spare)) (sym (c.in_ok-sure.ensures.same c.if-not-sure.true)) is in
+    of_both c.rewrite.result
+    (both_ok c.rewrite.result (λ worn ready. both_beside_dead f (g.B.FlashBank.bank c.rewrite.new.self.live) (g.B.FlashBank.bank c.rewrite.new.self.spare)
+    ready.beside (worn f was)) c.rewrite.ensures.worn c.rewrite.ensures.ready)
+    (one_err c.rewrite.result (λ cut. cut f was) c.rewrite.ensures.cut)
+
+pub returns-clause-worn : goal.returns-clause-worn
+returns-clause-worn g c =
+    let old = g.B.FlashBank.bank c.args.self.now.live in
+    let new = g.B.FlashBank.bank c.finish_at.new.self.live in
+    let at = c.first_blank-at.result in
+    let choice = c.requires.log.0 in
+    let n = c.requires.log.1 in
+    let left = c.requires.log.2 in
+    let found = c.first_blank-at.ensures.found n choice left in
+    let one = ap room c.settle_before.ensures.size in
+    let two = ap room c.finish_at.ensures.size in
+    both_ok c.finish_at.result (λ done first f fits is.
+    let less : at < room old.size = omega (arith, fits, first, one, two) in
+    subst (λ (b : Bank). AreWorn f new b) (sym c.finish_at.ensures.spare)
+    (opened_is_worn f at old (g.B.FlashBank.bank c.settle_before.new.bank) new (g.B.FlashBank.bank c.args.self.now.spare) c.settle_before.ensures.keeps
+    c.finish_at.ensures.keeps
+    c.settle_before.ensures.counts c.finish_at.ensures.counts (found_undone old n at choice left found less (c.first_blank-at.ensures.unclosed less))
+    (found_next old n at choice left found) (done (omega (arith, less, one))) is)) c.finish_at.ensures.done c.finish_at.ensures.at
+
+pub returns-clause-once : goal.returns-clause-once
+returns-clause-once g c = λ f is.
+    let old = g.B.FlashBank.bank c.args.self.now.live in
+    let mid = g.B.FlashBank.bank c.settle_before.new.bank in
+    let new = g.B.FlashBank.bank c.finish_at.new.self.live in
+    let at = c.first_blank-at.result in
+    subst (λ (b : Bank). AreWornBoth (f + 1) new b) (sym c.finish_at.ensures.spare) (
+      worn_more f old new (g.B.FlashBank.bank c.args.self.now.spare)
+          (then_keeps old mid new c.settle_before.ensures.keeps c.finish_at.ensures.keeps)
+          (then_counts old mid new (place (at - 1)) (place at) (place at + 12) (omega arith) (omega arith) c.settle_before.ensures.counts
+          c.finish_at.ensures.counts).once is,
+      inl c.requires.spare,
+    )

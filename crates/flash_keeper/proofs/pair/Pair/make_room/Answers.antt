@@ -2,6 +2,7 @@ use Rattle.std.proofs.Common.{◌∙◌}
 use Rattle.flash_keeper.proofs.Outcomes.{on_err}
 use Rattle.flash_keeper.proofs.BankLemmas.{ready_is_held, rewritten_is_held, rewritten_found, rewritten_records}
 use Rattle.flash_keeper.proofs.KeeperLemmas.{nothing_else}
+use Rattle.flash_keeper.proofs.WearLemmas.{both_beside_dead}
 use Rattle.flash_keeper.proofs.pair.Pair.make_room.Goals as goal
 
 pub returns-in_err-rewrite-clause-held : goal.returns-in_err-rewrite-clause-held
@@ -22,3 +23,10 @@ returns-clause-held g c = ready_is_held _ _ _ _ c.in_ok-rewrite.ensures.ready c.
 
 pub returns-clause-found : goal.returns-clause-found
 returns-clause-found g c = nothing_else _ _ _ c.in_ok-rewrite.ensures.ready ∙ c.in_ok-rewrite.ensures.records
+
+pub returns-in_err-rewrite-clause-cut : goal.returns-in_err-rewrite-clause-cut
+returns-in_err-rewrite-clause-cut g c = on_err c.from_residual.result c.in_err-rewrite.ensures.cut
+
+pub returns-clause-cut : goal.returns-clause-cut
+returns-clause-cut g c = λ f is. both_beside_dead f (g.B.FlashBank.bank c.rewrite.new.self.live) (g.B.FlashBank.bank c.rewrite.new.self.spare)
+    c.in_ok-rewrite.ensures.ready.beside (c.in_ok-rewrite.ensures.worn f is)

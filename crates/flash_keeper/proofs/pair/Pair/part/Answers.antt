@@ -1,5 +1,10 @@
-use Rattle.std.proofs.Common.{◌∙◌, is_ok, true, false, refl, arith}
-use Rattle.flash_keeper.proofs.BankLemmas.{confirmed_left, retired_left, noted_left}
+use Rattle.std.proofs.Common.{◌∙◌, is_ok, true, false, refl, arith, ◌+◌, Bool, inl, subst}
+use Rattle.flash_keeper.proofs.BankLemmas.{confirmed_left, retired_left, noted_left, still_dead}
+use Rattle.flash_keeper.specs.Flash.{Programs}
+use Rattle.flash_keeper.specs.Wear.{one_if}
+use Rattle.flash_keeper.proofs.Outcomes.{on_err, on_ok_of}
+use Rattle.flash_keeper.proofs.OpeningLemmas.{true_is_false}
+use Rattle.flash_keeper.proofs.WearLemmas.{worn_at_most, both_ways_more, parted, zero_keeps, keeps_all, then_keeps, program_counts, no_counts, then_counts}
 use Rattle.flash_keeper.proofs.pair.Pair.part.Goals as goal
 
 pub returns-in_err-confirm-clause-left : goal.returns-in_err-confirm-clause-left
@@ -33,3 +38,53 @@ returns-in_err-retire-clause-others g c = λ i two. c.in_err-retire.ensures.prog
 pub returns-clause-others : goal.returns-clause-others
 returns-clause-others g c = λ i two.
     c.note.ensures.programs.others i (λ e. omega (arith, two, e)) ∙ c.in_ok-retire.ensures.programs.others i (λ e. omega (arith, two, e))
+
+pub returns-then-is_noted-clause-worn : goal.returns-then-is_noted-clause-worn
+returns-then-is_noted-clause-worn g c =
+    λ f is. worn_at_most f (f + one_if (g.B.FlashBank.bank c.args.self.now.spare).torn) (g.B.FlashBank.bank c.args.self.now.live)
+    (g.B.FlashBank.bank c.args.self.now.spare) (omega arith) is
+
+pub returns-in_err-confirm-clause-cut : goal.returns-in_err-confirm-clause-cut
+returns-in_err-confirm-clause-cut g c =
+    let a = g.B.FlashBank.bank c.args.self.now.live in
+    let b = g.B.FlashBank.bank c.confirm.new.bank in
+    let spare = g.B.FlashBank.bank c.args.self.now.spare in
+    on_err c.from_residual.result (λ f is. both_ways_more f a b spare spare (zero_keeps a b 2 false c.in_err-confirm.ensures.programs) (keeps_all spare)
+    (program_counts a b 2 0 2 3 false (omega arith) (omega arith) c.in_err-confirm.ensures.programs).once (no_counts spare 0 0).once (λ dead. dead) is)
+
+pub returns-in_err-retire-clause-cut : goal.returns-in_err-retire-clause-cut
+returns-in_err-retire-clause-cut g c =
+    let a = g.B.FlashBank.bank c.args.self.now.live in
+    let b = g.B.FlashBank.bank c.confirm.new.bank in
+    let d = g.B.FlashBank.bank c.args.self.now.spare in
+    let e = g.B.FlashBank.bank c.retire.new.bank in
+    on_err c.from_residual-in_err-retire.result (λ f is. both_ways_more f a b d e (zero_keeps a b 2 true c.in_ok-confirm.ensures.programs)
+    (zero_keeps d e 0 false c.in_err-retire.ensures.programs)
+    (program_counts a b 2 0 2 3 true (omega arith) (omega arith) c.in_ok-confirm.ensures.programs).once
+    (program_counts d e 0 0 0 1 false (omega arith) (omega arith) c.in_err-retire.ensures.programs).once
+    (still_dead d e false c.in_err-retire.ensures.programs) is)
+
+pub returns-clause-worn : goal.returns-clause-worn
+returns-clause-worn g c =
+    let d = g.B.FlashBank.bank c.args.self.now.spare in
+    let e = g.B.FlashBank.bank c.retire.new.bank in
+    let h = g.B.FlashBank.bank c.note.new.bank in
+    on_ok_of c.note.result (λ ok f is. parted f (g.B.FlashBank.bank c.args.self.now.live) (g.B.FlashBank.bank c.confirm.new.bank) d e h d.torn
+    c.in_ok-confirm.ensures.programs c.in_ok-retire.ensures.programs (subst (λ (b : Bool). Programs 1 0 b e h) ok c.note.ensures.programs) refl
+    (λ firm zero. true_is_false c.is_noted.result (c.is_noted.ensures.firm firm zero) c.if-is_noted.false) is)
+
+pub returns-clause-cut : goal.returns-clause-cut
+returns-clause-cut g c =
+    let a = g.B.FlashBank.bank c.args.self.now.live in
+    let b = g.B.FlashBank.bank c.confirm.new.bank in
+    let d = g.B.FlashBank.bank c.args.self.now.spare in
+    let e = g.B.FlashBank.bank c.retire.new.bank in
+    let h = g.B.FlashBank.bank c.note.new.bank in
+    let ok = is_ok c.note.result in
+    on_err c.note.result (λ f is. both_ways_more f a b d h (zero_keeps a b 2 true c.in_ok-confirm.ensures.programs)
+    (then_keeps d e h (zero_keeps d e 0 true c.in_ok-retire.ensures.programs) (zero_keeps e h 1 ok c.note.ensures.programs))
+    (program_counts a b 2 0 2 3 true (omega arith) (omega arith) c.in_ok-confirm.ensures.programs).once
+    (then_counts d e h 0 1 2 (omega arith) (omega arith)
+    (program_counts d e 0 0 0 1 true (omega arith) (omega arith) c.in_ok-retire.ensures.programs)
+    (program_counts e h 1 0 1 2 ok (omega arith) (omega arith) c.note.ensures.programs)).once
+    (λ dead. inl (c.note.ensures.programs.others 0 (λ x. omega (arith, x)) ∙ c.in_ok-retire.ensures.programs.done refl)) is)

@@ -1,7 +1,8 @@
 use Rattle.std.proofs.Common.{◌∙◌}
-use Rattle.flash_keeper.proofs.Outcomes.{on_err, one_ok, one_err}
+use Rattle.flash_keeper.proofs.Outcomes.{on_err, one_ok, one_err, both_err}
 use Rattle.flash_keeper.proofs.BankLemmas.{wiped_is_ready, wiped_is_held, rewritten_is_held, rewritten_found, rewritten_records}
 use Rattle.flash_keeper.proofs.KeeperLemmas.{nothing_else}
+use Rattle.flash_keeper.proofs.WearLemmas.{wiped_worn, cut_in_copy}
 use Rattle.flash_keeper.proofs.pair.Pair.purge.Goals as goal
 
 pub returns-in_err-rewrite-clause-held : goal.returns-in_err-rewrite-clause-held
@@ -32,3 +33,16 @@ returns-clause-held g c =
 
 pub returns-clause-found : goal.returns-clause-found
 returns-clause-found g c = on_err c.wipe.result (nothing_else _ _ _ c.in_ok-rewrite.ensures.ready ∙ c.in_ok-rewrite.ensures.records)
+
+pub returns-in_err-rewrite-clause-cut : goal.returns-in_err-rewrite-clause-cut
+returns-in_err-rewrite-clause-cut g c = on_err c.from_residual.result c.in_err-rewrite.ensures.cut
+
+pub returns-clause-worn : goal.returns-clause-worn
+returns-clause-worn g c = one_ok c.wipe.result (λ blank f is.
+    wiped_worn f (g.B.FlashBank.bank c.rewrite.new.self.live) (g.B.FlashBank.bank c.rewrite.new.self.spare) (g.B.FlashBank.bank c.wipe.new.bank)
+    c.in_ok-rewrite.ensures.marked blank.fresh (c.in_ok-rewrite.ensures.worn f is)) c.wipe.ensures.blank
+
+pub returns-clause-cut : goal.returns-clause-cut
+returns-clause-cut g c = both_err c.wipe.result (λ worn dead f is.
+    cut_in_copy f (g.B.FlashBank.bank c.rewrite.new.self.live) (g.B.FlashBank.bank c.rewrite.new.self.spare) (g.B.FlashBank.bank c.wipe.new.bank) dead (worn f)
+    (c.in_ok-rewrite.ensures.worn f is)) c.wipe.ensures.worn (c.wipe.ensures.dead c.in_ok-rewrite.ensures.ready.beside)

@@ -22,3 +22,12 @@ returns-clause-found g c = one_err c.append.result (λ f. elim f [
 
 pub returns-clause-same : goal.returns-clause-same
 returns-clause-same g c = one_err c.append.result (λ e. e ∙ c.make_room.ensures.records) c.append.ensures.same
+
+pub returns-in_err-make_room-clause-cut : goal.returns-in_err-make_room-clause-cut
+returns-in_err-make_room-clause-cut g c = on_err c.from_residual.result c.in_err-make_room.ensures.cut
+
+pub returns-clause-worn : goal.returns-clause-worn
+returns-clause-worn g c = one_ok c.append.result (λ worn f is. worn f (c.in_ok-make_room.ensures.worn f is)) c.append.ensures.worn
+
+pub returns-clause-cut : goal.returns-clause-cut
+returns-clause-cut g c = one_err c.append.result (λ cut f is. cut f (c.in_ok-make_room.ensures.worn f is)) c.append.ensures.cut

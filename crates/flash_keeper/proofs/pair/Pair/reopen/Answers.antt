@@ -1,10 +1,12 @@
-use Rattle.std.proofs.Common.{ℕ, sym, subst}
+use Rattle.std.proofs.Common.{ℕ, sym, subst, ◌+◌, false, arith}
 use Rattle.flash_keeper.specs.Flash.{Bank}
 use Rattle.flash_keeper.specs.Log.{upto}
-use Rattle.flash_keeper.specs.Banks.{AreReady, choice_of}
+use Rattle.flash_keeper.specs.Banks.{AreReady, choice_of, AreWornBoth}
 use Rattle.flash_keeper.proofs.Outcomes.{on_err, one_ok, one_err}
 use Rattle.flash_keeper.proofs.LogLemmas.{one_of}
 use Rattle.flash_keeper.proofs.BankLemmas.{still_held, copy_goes_on}
+use Rattle.flash_keeper.specs.Wear.{one_if}
+use Rattle.flash_keeper.proofs.WearLemmas.{one_least, both_at_most, both_ways_more, zero_keeps, keeps_all, program_counts, no_counts, reopened_worn}
 use Rattle.flash_keeper.proofs.pair.Pair.reopen.Goals as goal
 
 pub settle-requires-clause-left : goal.settle-requires-clause-left
@@ -44,3 +46,26 @@ returns-clause-records g c =
     let live = c.in_ok-hand_over.ensures.live in
     let next = c.in_ok-hand_over.ensures.next in
     one_of (λ i. upto (live i).words (next i)) (c.requires.copy_cells c.in-Some.cells c.in-Some.is).stands
+
+pub returns-in_default-clause-twice : goal.returns-in_default-clause-twice
+returns-in_default-clause-twice g c = λ f is.
+    let torn = one_least (g.B.FlashBank.bank c.args.self.now.spare).torn in
+    both_at_most (f + one_if (g.B.FlashBank.bank c.args.self.now.spare).torn + 1) (f + 2) (g.B.FlashBank.bank c.settle.new.self.live)
+    (g.B.FlashBank.bank c.settle.new.self.spare)
+    (omega (arith, torn)) (c.settle.ensures.twice f is)
+
+pub returns-in_err-hand_over-clause-twice : goal.returns-in_err-hand_over-clause-twice
+returns-in_err-hand_over-clause-twice g c = λ f is.
+    let a = g.B.FlashBank.bank c.args.self.now.live in
+    let b = g.B.FlashBank.bank c.hand_over.new.self.live in
+    let spare = g.B.FlashBank.bank c.args.self.now.spare in
+    let p = c.in_err-hand_over.ensures.same_live in
+    subst (λ (e : Bank). AreWornBoth (f + 2) b e) (sym c.in_err-hand_over.ensures.same_spare) (both_at_most (f + 1) (f + 2) b spare (omega arith)
+    (both_ways_more f a b spare spare (zero_keeps a b 0 false p) (keeps_all spare) (program_counts a b 0 0 0 1 false (omega arith) (omega arith) p).once
+    (no_counts spare 0 0).once (λ dead. dead) is))
+
+pub returns-clause-twice : goal.returns-clause-twice
+returns-clause-twice g c = λ f is.
+    subst (λ (b : Bank). AreWornBoth (f + 2) b (g.B.FlashBank.bank c.hand_over.new.self.spare)) (sym c.in_ok-hand_over.ensures.live)
+    (reopened_worn f (g.B.FlashBank.bank c.args.self.now.live) (g.B.FlashBank.bank c.hand_over.new.self.spare) (g.B.FlashBank.bank c.args.self.now.spare)
+    c.in_ok-hand_over.ensures.spare is.0)

@@ -1,12 +1,14 @@
-use Rattle.std.proofs.Common.{◌∙◌, inr, true, false, refl, ap, sym, subst, ℕ, arith}
+use Rattle.std.proofs.Common.{◌∙◌, inr, true, false, refl, ap, sym, subst, ℕ, arith, ◌+◌}
 use Rattle.std.specs.FinMap.{len}
 use Rattle.plc_base.specs.Keeper.{Records}
 use Rattle.flash_keeper.specs.Flash.{Bank}
 use Rattle.flash_keeper.specs.Log.{upto}
-use Rattle.flash_keeper.specs.Banks.{AreLeft, AreHeld, AreReady, IsLive, choice_of}
+use Rattle.flash_keeper.specs.Banks.{AreLeft, AreHeld, AreReady, IsLive, choice_of, AreWornBoth}
 use Rattle.flash_keeper.proofs.Outcomes.{on_err}
 use Rattle.flash_keeper.proofs.BankLemmas.{copy_stands, copy_is_ready, marked_log, numbered-same, word_of_left, after_head}
 use Rattle.flash_keeper.proofs.BankLemmas.{held_beside_dead, held_beside_standing, handed_is_held}
+use Rattle.flash_keeper.specs.Wear.{AreWorn}
+use Rattle.flash_keeper.proofs.WearLemmas.{handed_over, cut_in_copy, cut_in_mark, cut_in_retirement}
 use Rattle.flash_keeper.proofs.pair.Pair.rewrite.Goals as goal
 
 pub returns-in_err-next-clause-held : goal.returns-in_err-next-clause-held
@@ -96,3 +98,37 @@ returns-clause-ready g c =
     subst (λ (b : Bank). AreReady b (g.B.FlashBank.bank c.hand_over.new.self.spare) c.hand_over.new.self.next) (sym c.in_ok-hand_over.ensures.live)
     (subst (λ (k : ℕ). AreReady (g.B.FlashBank.bank c.confirm.new.bank) (g.B.FlashBank.bank c.hand_over.new.self.spare) k)
     (sym c.in_ok-hand_over.ensures.next) ready)
+
+pub returns-clause-worn : goal.returns-clause-worn
+returns-clause-worn g c = λ f is. subst (λ (b : Bank). AreWorn f b (g.B.FlashBank.bank c.hand_over.new.self.spare)) (sym c.in_ok-hand_over.ensures.live)
+    (handed_over f c.in_ok-next.next (g.B.FlashBank.bank c.args.self.now.live) (g.B.FlashBank.bank c.hand_over.new.self.spare)
+    (g.B.FlashBank.bank c.args.self.now.spare)
+    (g.B.FlashBank.bank c.copy_to.new.to) (g.B.FlashBank.bank c.confirm.new.bank) true true c.in_ok-next.ensures.fresh c.in_ok-next.ensures.log
+    c.in_ok-confirm.ensures.programs c.in_ok-hand_over.ensures.spare is)
+
+pub returns-clause-marked : goal.returns-clause-marked
+returns-clause-marked g c =
+    let same = ap (λ (b : Bank). b.programs 2) c.in_ok-hand_over.ensures.live in
+    let once = c.in_ok-confirm.ensures.programs.once in
+    let none = c.in_ok-next.ensures.fresh.mark in
+    omega (arith, same, once, none)
+
+pub returns-in_err-next-clause-cut : goal.returns-in_err-next-clause-cut
+returns-in_err-next-clause-cut g c = on_err c.from_residual.result (λ f is.
+    cut_in_copy f (g.B.FlashBank.bank c.args.self.now.live) (g.B.FlashBank.bank c.args.self.now.spare) (g.B.FlashBank.bank c.copy_to.new.to)
+    c.in_err-next.ensures.dead
+    (c.in_err-next.ensures.worn f) is)
+
+pub returns-in_err-confirm-clause-cut : goal.returns-in_err-confirm-clause-cut
+returns-in_err-confirm-clause-cut g c = on_err c.from_residual-in_err-confirm.result (λ f is.
+    cut_in_mark f c.in_ok-next.next (g.B.FlashBank.bank c.args.self.now.live) (g.B.FlashBank.bank c.args.self.now.spare) (g.B.FlashBank.bank c.copy_to.new.to)
+    (g.B.FlashBank.bank c.confirm.new.bank) false
+    c.in_ok-next.ensures.fresh c.in_ok-next.ensures.log c.in_err-confirm.ensures.programs is)
+
+pub returns-in_err-hand_over-clause-cut : goal.returns-in_err-hand_over-clause-cut
+returns-in_err-hand_over-clause-cut g c = on_err c.from_residual-in_err-hand_over.result (λ f is.
+    subst (λ (b : Bank). AreWornBoth (f + 1) (g.B.FlashBank.bank c.hand_over.new.self.live) b) (sym c.in_err-hand_over.ensures.same_spare)
+    (cut_in_retirement f c.in_ok-next.next (g.B.FlashBank.bank c.args.self.now.live) (g.B.FlashBank.bank c.hand_over.new.self.live)
+    (g.B.FlashBank.bank c.args.self.now.spare)
+    (g.B.FlashBank.bank c.copy_to.new.to) (g.B.FlashBank.bank c.confirm.new.bank) true false c.in_ok-next.ensures.fresh c.in_ok-next.ensures.log
+    c.in_ok-confirm.ensures.programs c.in_err-hand_over.ensures.same_live is))

@@ -1,9 +1,11 @@
-use Rattle.std.proofs.Common.{◌∙◌, ℕ, inl, ap, subst, sym}
+use Rattle.std.proofs.Common.{◌∙◌, ℕ, inl, ap, subst, sym, ◌+◌, arith}
 use Rattle.flash_keeper.specs.Flash.{Bank}
 use Rattle.flash_keeper.specs.Log.{IsLeft}
 use Rattle.flash_keeper.specs.Banks.{AreHeld, AreAmong, choice_of}
 use Rattle.flash_keeper.proofs.Outcomes.{on_err, one_ok, one_err}
 use Rattle.flash_keeper.proofs.BankLemmas.{decided-same, moved_is_held}
+use Rattle.flash_keeper.specs.Wear.{one_if}
+use Rattle.flash_keeper.proofs.WearLemmas.{both_at_most}
 use Rattle.flash_keeper.proofs.pair.Pair.settle.Goals as goal
 
 pub returns-in_err-part-clause-left : goal.returns-in_err-part-clause-left
@@ -50,3 +52,16 @@ returns-clause-held g c =
     let n = c.args.self.now.next in
     one_err c.finish.result (λ f left. f (choice_of was n) (subst (λ (k : ℕ). IsLeft live k (choice_of was n)) (sym c.part.ensures.next)
     (c.part.ensures.left n (choice_of was n) left).log)) c.finish.ensures.held
+
+pub returns-in_err-part-clause-twice : goal.returns-in_err-part-clause-twice
+returns-in_err-part-clause-twice g c = λ f is.
+    both_at_most (f + 1) (f + one_if (g.B.FlashBank.bank c.args.self.now.spare).torn + 1) (g.B.FlashBank.bank c.part.new.self.live)
+    (g.B.FlashBank.bank c.part.new.self.spare)
+    (omega arith) (c.in_err-part.ensures.cut f is)
+
+pub returns-clause-worn : goal.returns-clause-worn
+returns-clause-worn g c = one_ok c.finish.result (λ worn f fits is.
+    worn (f + one_if (g.B.FlashBank.bank c.args.self.now.spare).torn) fits (c.in_ok-part.ensures.worn f is)) c.finish.ensures.worn
+
+pub returns-clause-twice : goal.returns-clause-twice
+returns-clause-twice g c = λ f is. c.finish.ensures.once (f + one_if (g.B.FlashBank.bank c.args.self.now.spare).torn) (c.in_ok-part.ensures.worn f is.0)
