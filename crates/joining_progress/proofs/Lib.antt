@@ -12,3 +12,4 @@ mod Commands
 mod AgentSteps
 mod AgentEvents
 mod AgentJoinings
+mod PlainCosts

@@ -1,3 +1,4 @@
 pub mod Packets
 pub mod Joinings
 pub mod AgentJoinings
+pub mod PlainCosts
