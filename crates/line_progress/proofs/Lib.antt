@@ -48,3 +48,18 @@ pub mod FlightsKept
 pub mod PieceReceipts
 pub mod PieceArrivals
 pub mod BroadcastFates
+mod PlainFrames
+mod PlainComings
+mod PlainPlans
+mod FirstPackets
+mod NetworkPackets
+mod MeterSteps
+mod CoordinatorSteps
+mod NodesHear
+mod Courses
+mod AirJoinings
+mod Commands
+mod AgentSteps
+mod AgentEvents
+mod AgentJoinings
+mod PlainCosts

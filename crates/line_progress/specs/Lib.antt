@@ -12,3 +12,7 @@ pub mod Held
 pub mod EventFates
 pub mod BroadcastFates
 pub mod Discovery
+pub mod Packets
+pub mod Joinings
+pub mod AgentJoinings
+pub mod PlainCosts

@@ -25,8 +25,8 @@ use Rattle.line_rules.specs.Runs.{run, takings}
 use Rattle.line_rules.specs.Steps.{blank_node, psk_of}
 use Rattle.line_rules.specs.Worlds.{Pairing, World, node_at}
 use Rattle.line_progress.specs.Arrival.{answers_of}
-use Rattle.joining_progress.specs.AgentJoinings.{Agent, MayJoinBy, agent_answers, by_agent}
-use Rattle.joining_progress.specs.Joinings.{Admitter, IsJoined, MayJoin, Newcomer, air_answers, doings, over_the_air}
+use Rattle.line_progress.specs.AgentJoinings.{Agent, MayJoinBy, agent_answers, by_agent}
+use Rattle.line_progress.specs.Joinings.{Admitter, IsJoined, MayJoin, Newcomer, air_answers, doings, over_the_air}
 use Rattle.worked_scripts.specs.ArrivalScripts.{with_node, with_second_key, with_station_at, with_grant_at, with_cut_at}
 use Rattle.worked_scripts.specs.Scripts.{plain, eui, group_key, pair_key, second_key, rand_k, rand_r, world_of}
 

@@ -1,6 +1,0 @@
--- The law: the thirteen events of a joining by an agent, one after the other.
-use Rattle.joining_progress.proofs.AgentJoinings.{arrive}
-use Rattle.joining_progress.proofs.laws.joinings_arrive_by_agent.Goals as goal
-
-pub returns : goal.returns
-returns c = arrive

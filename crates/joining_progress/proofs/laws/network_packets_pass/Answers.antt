@@ -1,6 +1,0 @@
--- The law: each packet is taken as the laws of EAP-PSK say.
-use Rattle.joining_progress.proofs.NetworkPackets.{packets_pass}
-use Rattle.joining_progress.proofs.laws.network_packets_pass.Goals as goal
-
-pub returns : goal.returns
-returns c = packets_pass

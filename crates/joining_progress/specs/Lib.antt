@@ -1,4 +1,0 @@
-pub mod Packets
-pub mod Joinings
-pub mod AgentJoinings
-pub mod PlainCosts
