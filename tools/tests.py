@@ -40,6 +40,17 @@ class Deliveries(unittest.TestCase):
         self.assertEqual((status, errors), (0, ""))
         self.assertEqual([it for it in written.split("\n") if it.startswith("deliver")], [it for it in script if it.startswith("deliver")])
 
+    def test_a_remark_of_an_event_stays_before_its_deliveries(self):
+        remark = "#@ 0.000 try node=1 reading=1 k=1"
+        sketch = [*NODES, "depot 1", "hears 0 1 1", "send 1 0 48", remark, "# of the next line", "tick 1", ""]
+        status, written, errors = ran("tools/deliveries", text="\n".join(sketch))
+        self.assertEqual((status, errors), (0, ""))
+        lines = written.split("\n")
+        at = lines.index("send 1 0 48")
+        self.assertEqual(lines[at + 1], remark)
+        self.assertTrue(lines[at + 2].startswith("deliver "), lines[at + 2])
+        self.assertEqual(lines[-3:], ["# of the next line", "tick 1", ""])
+
     def test_a_bad_link_is_named_with_its_line(self):
         self.bad([*NODES, "hears 0 x 1"], "line 3 of the sketch: `x` is no number")
         self.bad([*NODES, "hears 0 1"], "line 3 of the sketch: the form is `hears <node> <node> <cost>`")
@@ -113,6 +124,9 @@ names = ["DCU"]
         self.assertIn("#@ clock 2026-11-29T01:00:00+01:00", written)
         self.assertIn("#@ name 1 A", written)
         self.assertIn("tick 120", written)
+        for at, second in ((1, 0), (2, 120)):
+            send = [it for it, line in enumerate(written) if line.startswith("send 1 0 ")][at - 1]
+            self.assertEqual(written[send + 1], f"#@ {second}.000 try node=1 reading={at} k=1")
         told = [it[len("from_csv: - ") :] for it in errors.split("\n") if it.startswith("from_csv: - ")]
         self.assertEqual([f"# - {it}" for it in told], written[-len(told) :])
         self.assertTrue(any("hear each other: nothing says who hears whom" in it for it in told))
@@ -134,6 +148,7 @@ names = ["DCU"]
         unheard = self.lines(log, self.MAPPING + "[assume]\nunread = 'unheard'\n")
         self.assertEqual([it.split()[0] for it in unheard], ["coordinator", "meter", "depot", "hears", "deaf", "send", "hears"])
         self.assertEqual(len(self.lines(log, self.MAPPING + "[assume]\nunread = 'left out'\n")), 4)
+        self.assertIn("#@ 0.000 try node=1 reading=1 k=1", self.made(log, self.MAPPING + "[assume]\nunread = 'left out'\n")[1])
 
     def test_costs_follow_from_lqi(self):
         links = "[links]\nfile = 'links.csv'\nlqi = 'lqi'\n[costs]\nlqi = [[200, 1], [100, 4]]\n"

@@ -12,4 +12,6 @@ pub mod PageNests
 pub mod Paged
 pub mod Recorded
 pub mod StatusNames
+pub mod Tabled
+pub mod Told
 mod DatagramVerdicts

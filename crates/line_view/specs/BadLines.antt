@@ -1,5 +1,5 @@
 -- The line at which a run ends because it is bad.
-use Rattle.std.specs.Prelude.{List, [], ◌∷◌, codes, ℕ, Option, None, Some}
+use Rattle.std.specs.Prelude.{List, [], ◌∷◌, ◌++◌, codes, ℕ, Option, None, Some}
 use Rattle.sentence_parts.specs.declared.part.Part.TheVariants.{Words, Number}
 use Rattle.sentence_parts.specs.Parts.{parts_text}
 use Rattle.line_script.specs.Texts.{reason_word}
@@ -16,3 +16,8 @@ bad_text bad =
 abbrev pub bad_words : Option BadLine → List ℕ
 bad_words None = []
 bad_words (Some bad) = bad_text bad
+
+-- the same as a line, no line where there is no bad one
+abbrev pub bad_line_text : Option BadLine → List ℕ
+bad_line_text None = []
+bad_line_text (Some bad) = bad_text bad ++ codes "\n"

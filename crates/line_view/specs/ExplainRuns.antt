@@ -1,5 +1,5 @@
 -- What `explain` writes of a script.
-use Rattle.std.specs.Prelude.{ℕ, ◌-◌, ◌==◌, ◌&&◌, Bool, true, nat_le, nat_lt, List, [], ◌∷◌, ◌++◌, codes, length, Option, None, Some, if◌then◌else◌}
+use Rattle.std.specs.Prelude.{◌≡◌, ℕ, ◌-◌, ◌==◌, ◌&&◌, Bool, true, nat_le, nat_lt, List, [], ◌∷◌, ◌++◌, codes, length, Option, None, Some, if◌then◌else◌}
 use Rattle.script_lines.specs.Outcomes.{Outcome, Skips}
 use Rattle.sentence_parts.specs.declared.part.Part.TheVariants.{Words, Number}
 use Rattle.sentence_parts.specs.Parts.{parts_text}
@@ -14,11 +14,13 @@ use Rattle.story_accounts.specs.Accounts.{RunAccount}
 use Rattle.story_accounts.specs.Indexes.{Index, index_of}
 use Rattle.story_accounts.specs.Sections.{account_text}
 use Rattle.line_view.specs.declared.bad_line.BadLine.{BadLine}
-use Rattle.line_view.specs.BadLines.{bad_text}
+use Rattle.line_view.specs.BadLines.{bad_line_text}
 use Rattle.line_view.specs.Recordings.{Recording, no_recording, recording_after}
 use Rattle.line_view.specs.declared.run_machine.Finding.{Finding}
 use Rattle.line_view.specs.declared.run_machine.Finding.TheVariants as findings
 use Rattle.line_view.specs.RunMachines.{RunRules, forged_if, outcome_by}
+use Rattle.line_readings.specs.Readings.{IsHeadline}
+use Rattle.line_view.specs.TableRuns.{stories_in}
 use Rattle.line_view.specs.Sentences.{Sentences, no_sentences, with_sentence}
 
 pub record ExplainRun : Type 0 where
@@ -37,11 +39,6 @@ counts_text w =
     parts_text
     (Words (codes "script: ") ∷ Number w.events ∷ Words (codes " events, ") ∷ Number (length w.flights) ∷ Words (codes " flights, ")
     ∷ Number w.sends ∷ Words (codes " sends, ") ∷ Number w.ups ∷ Words (codes " handed up, ") ∷ Number w.forged ∷ Words (codes " forged\n") ∷ [])
-
--- the bad line, if there is one
-abbrev pub bad_line_text : Option BadLine → List ℕ
-bad_line_text None = []
-bad_line_text (Some bad) = bad_text bad ++ codes "\n"
 
 -- a run with its stories, the sentences of its events, the ends of its stories and what is looked up of it
 abbrev pub run_account : Recording → Sentences → Stories → List Ends → Index → RunAccount
@@ -112,6 +109,27 @@ answer_of chosen r worded = if is_there chosen r then account_of chosen r worded
 unfoldable pub explain_text : ExplainRun → Option BadLine → List ℕ
 explain_text m bad = counts_text m.run.world ++ (bad_line_text bad ++ answer_of m.chosen m.run m.worded)
 
+-- whether all readings of a run came, where an account is of the whole run
+abbrev pub IsFirstLine : Chosen → Recording → List ℕ → Type 0
+IsFirstLine chosens.Failed r line = IsHeadline (stories_in r) line
+IsFirstLine chosens.All r line = IsHeadline (stories_in r) line
+IsFirstLine (chosens.Send send) r line = line ≡ []
+IsFirstLine (chosens.Node node) r line = line ≡ []
+
+-- what is known of the text at the end: after the first line it is that of the run
+pub record IsExplained (m : ExplainRun) (text : List ℕ) : Type 0 where
+  pub line : List ℕ
+  pub first : IsFirstLine m.chosen m.run line
+  pub whole : text ≡ line ++ explain_text m None
+
+abbrev pub says : ExplainRun → List ℕ → Type 0
+says m text = IsExplained m text
+
+-- where the run ends at a bad line there is no first line
+abbrev pub at_bad_line : ExplainRun → Option BadLine → List ℕ
+at_bad_line m None = []
+at_bad_line m (Some bad) = explain_text m (Some bad)
+
 -- # Lines
 
 -- after an entry of the script, which stands in a line of this number
@@ -130,7 +148,7 @@ rules =
       world = λ m. m.run.world;
       after_entry = after_entry;
       quiet_turn = λ m content. Skips;
-      text = explain_text;
+      text = at_bad_line;
       finding = finding;
     }
 

@@ -1,6 +1,7 @@
 pub mod Truths
 pub mod BadLines
 pub mod ExplainRuns
+pub mod HeldTexts
 pub mod Recordings
 pub mod RunMachines
 pub mod Sentences
@@ -8,4 +9,5 @@ pub mod CheckRuns
 pub mod CaptureRuns
 pub mod PageRuns
 pub mod Checked
+pub mod TableRuns
 pub mod Tool

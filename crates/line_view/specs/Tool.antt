@@ -1,39 +1,50 @@
 -- What the program's call says.
-use Rattle.std.specs.Prelude.{◌≡◌, ℕ, Bool, true, false, List, [], ◌∷◌, ◌++◌, String, Some, None, codes, is_some, string_bytes, bytes_eq}
+use Rattle.std.specs.Prelude.{◌≡◌, ◌⊎◌, ℕ, Bool, true, false, List, [], ◌∷◌, ◌++◌, String, Some, None, codes, is_some, string_bytes, bytes_eq}
 use Rattle.std.specs.Prelude.{if◌then◌else◌}
 use Rattle.std.specs.declared.option.Option.{Option}
 use Rattle.std.specs.declared.alloc.Global.{Global}
 use Rattle.plc_base.specs.Streams.{SourceState, SinkState}
 use Rattle.script_lines.specs.declared.machine.Exit.{Exit}
+use Rattle.script_lines.specs.declared.machine.Exit.TheVariants as exits
 use Rattle.script_lines.specs.Clauses.{Drives}
 use Rattle.script_lines.specs.Outcomes.{Outcome}
 use Rattle.script_runs.specs.TakenLines.{first_bad}
 use Rattle.line_view.specs.declared.run_machine.Finding.{Finding}
 use Rattle.line_view.specs.RunMachines.{found_status}
 use Rattle.line_view.specs.declared.tool.Command.{Command}
-use Rattle.line_view.specs.declared.tool.Command.TheVariants.{Capture, Check, Explain, Page}
+use Rattle.line_view.specs.declared.tool.Command.TheVariants.{Capture, Check, Explain, Page, Tables}
 use Rattle.script_runs.specs.declared.status.Status.{Status}
 use Rattle.script_runs.specs.declared.status.Status.TheVariants as status
 use Rattle.script_runs.specs.Runs.{Ran}
 use Rattle.script_runs.specs.Statuses.{status_of}
+use Rattle.script_runs.specs.Texts.{WritesText}
 use Rattle.line_view.specs.CheckRuns.{is_bad, outcome}
 use Rattle.line_script.specs.Words.{number_within}
 use Rattle.story_accounts.specs.declared.section.Chosen.{Chosen}
 use Rattle.story_accounts.specs.declared.section.Chosen.TheVariants as chosens
-use Rattle.line_view.specs.ExplainRuns.{explained, finding}
+use Rattle.line_view.specs.ExplainRuns.{explained, finding, says}
 use Rattle.line_view.specs.declared.capture.Wanted.{Wanted}
 use Rattle.line_view.specs.declared.capture.Wanted.TheVariants as wants
 use Rattle.line_view.specs.CaptureRuns.{captured, finding as capture_finding}
+use Rattle.line_view.specs.declared.tables.Table.{Table}
+use Rattle.line_view.specs.declared.tables.Table.TheVariants as tables
+use Rattle.line_view.specs.TableRuns.{tabled, finding as table_finding, says as table_says}
 use Rattle.run_pages.specs.Pages.{IsPage}
 use Rattle.line_view.specs.PageRuns.{paged, finding as page_finding}
 use Rattle.line_view.specs.Checked.{faults, first_of, faults_text, closing}
 
--- what Wireshark reads, if a word asks for that
+-- the table that a word asks for, if it does
+abbrev pub table_word : List ℕ → Option Command
+table_word word =
+    if bytes_eq word (codes "meters") then Some (Tables tables.Meters)
+    else (if bytes_eq word (codes "links") then Some (Tables tables.Links) else None)
+
+-- what Wireshark reads, or a table, if a word asks for that
 abbrev pub wanted_word : List ℕ → Option Command
 wanted_word word =
     if bytes_eq word (codes "capture") then Some (Capture (wants.Frames false))
     else (if bytes_eq word (codes "keys") then Some (Capture wants.Keys)
-    else (if bytes_eq word (codes "addresses") then Some (Capture wants.Addresses) else None))
+    else (if bytes_eq word (codes "addresses") then Some (Capture wants.Addresses) else table_word word))
 
 -- the command that words name, if they are of a form
 abbrev pub one_word : List ℕ → Option Command
@@ -75,7 +86,7 @@ command_of (word ∷ kind ∷ number ∷ []) = three_words (string_bytes word) (
 command_of (word ∷ kind ∷ number ∷ other ∷ words) = None
 
 abbrev pub usage_text : List ℕ
-usage_text = codes "usage: line_view check [--json] | explain [--all | send K | node N] | page | capture [--heard] | keys | addresses\n"
+usage_text = codes "usage: line_view check [--json] | explain [--all | send K | node N] | page | meters | links | capture [--heard] | keys | addresses\n"
 
 -- a status says of a script whether a line of it is bad
 abbrev pub Names : Status → Bool → Type 0
@@ -99,9 +110,46 @@ pub record Accounts {M : Type 0} (finding : M → Finding) (outcome : List ℕ �
   -- the status says whether a line of the script is bad
   pub named : Names result (is_some (first_bad drives.b source1.ended))
 
+-- nothing was written
+abbrev pub WritesNothing : Status → SinkState → SinkState → Status → Type 0
+WritesNothing why sink0 sink1 result = (result ≡ why) × (sink1 ≡ sink0)
+
+-- what was written of a run that came to its end: a text of which something is known, or nothing where there was no memory for it
+abbrev pub WritesEnd : {M : Type 0} → (M → Finding) → (M → List ℕ → Type 0) → M → SinkState → SinkState → Status → Type 0
+WritesEnd finding says last sink0 sink1 result =
+    ((text : List ℕ) × says last text × WritesText text (found_status (finding last)) sink0 sink1 result)
+    ⊎ WritesNothing status.Memory sink0 sink1 result
+
+-- What was written once a script was read, by how that ended: the last text of its run, or what was held for a bad line. Nothing where the source failed,
+-- or memory ran out.
+abbrev pub WritesBy : {M : Type 0} → (M → Finding) → (M → List ℕ → Type 0) → M → List ℕ → Exit → SinkState → SinkState → Status → Type 0
+WritesBy finding says last held exits.Fine sink0 sink1 result = WritesEnd finding says last sink0 sink1 result
+WritesBy finding says last held exits.BadScript sink0 sink1 result = WritesText held status.BadScript sink0 sink1 result
+WritesBy finding says last held exits.ReadFault sink0 sink1 result = WritesNothing status.ReadFault sink0 sink1 result
+WritesBy finding says last held exits.Memory sink0 sink1 result = WritesNothing status.Memory sink0 sink1 result
+WritesBy finding says last held exits.WriteFault sink0 sink1 result = WritesNothing status.Memory sink0 sink1 result
+
+-- What an account of a run did whose text is written once its script was read, and what its status says. What a bad line writes is held until then.
+pub record Tells {M : Type 0} (finding : M → Finding) (says : M → List ℕ → Type 0) (outcome : List ℕ → Bool → Outcome M)
+    (source0 source1 : SourceState) (sink0 sink1 : SinkState) (result : Status) : Type 0 where
+  pub exit : Exit
+  pub last : M
+  -- what is held, before and after
+  pub held0 : SinkState
+  pub held1 : SinkState
+  pub drives : Drives outcome last source0 source1 held0 held1 exit
+  pub writes : WritesBy finding says last drives.w exit sink0 sink1 result
+  -- the status says whether a line of the script is bad
+  pub named : Names result (is_some (first_bad drives.b source1.ended))
+
 -- what was said of the chosen stories
 abbrev pub Explains : Chosen → SourceState → SourceState → SinkState → SinkState → Status → Type 0
-Explains chosen source0 source1 sink0 sink1 result = Accounts finding (explained chosen) source0 source1 sink0 sink1 result
+Explains chosen source0 source1 sink0 sink1 result = Tells finding says (explained chosen) source0 source1 sink0 sink1 result
+
+-- what was said in a table
+abbrev pub Tabulates : Table → SourceState → SourceState → SinkState → SinkState → Status → Type 0
+Tabulates table source0 source1 sink0 sink1 result =
+    Tells table_finding table_says (tabled table) source0 source1 sink0 sink1 result
 
 -- what was written for Wireshark
 abbrev pub Captures : Wanted → SourceState → SourceState → SinkState → SinkState → Status → Type 0

@@ -1,6 +1,6 @@
 //! The line at which a run ends because it is bad.
 ghost use Rattle.std.specs.Prelude.{◌≡◌, ◌++◌, ◌≤◌, IfOk, OnOk, length, string_bytes};
-ghost use Rattle.line_view.specs.BadLines.{bad_text, bad_words};
+ghost use Rattle.line_view.specs.BadLines.{bad_line_text, bad_text, bad_words};
 ghost use Rattle.line_view.specs.Checked.{bad_line};
 
 use line_script::Reason;
@@ -36,6 +36,23 @@ pub fn push_bad(text: &mut String, alloc: Global, bad: BadLine) -> Result<(), Al
             words(". `line_view check` says why."),
         ],
     )
+}
+
+/// Appends the same as a line, no line where there is no bad one. It fails only where memory runs out.
+pub fn push_bad_line(
+    text: &mut String,
+    alloc: Global,
+    bad: Option<BadLine>,
+) -> Result<(), AllocError>
+    ensures { OnOk result (string_bytes text.new ≡ string_bytes text.old ++ bad_line_text bad) }
+{
+    match bad {
+        None => Ok(()),
+        Some(bad) => {
+            push_bad(text, alloc, bad)?;
+            text.push_str("\n")
+        }
+    }
 }
 
 /// What is said of the bad line at which a run ends, no words where there is none. It fails only where memory runs out.

@@ -1,12 +1,14 @@
 //! `explain`: what became of each datagram and each joining of a script.
-ghost use Rattle.std.specs.Prelude.{◌≡◌, ◌++◌, IfOk, OnOk, string_bytes};
+ghost use Rattle.std.specs.Prelude.{◌≡◌, ◌++◌, IfOk, OnOk, Some, string_bytes};
 ghost use Rattle.line_view.specs.ExplainRuns as explain_runs;
 
-use crate::bad_line::{BadLine, push_bad};
+use crate::bad_line::{BadLine, push_bad_line};
 use crate::recorder::Recorder;
-use crate::run_machine::{Finding, RunMachine, forged_if};
+use crate::run_machine::{Finding, LastText, RunMachine, forged_if};
 use crate::run_sentences::RunSentences;
+use crate::tables::first_line;
 use line_events::Event;
+use line_readings::Journal;
 use line_record::{Ends, RunStories, ends_of, stories_of};
 use line_script::Reason;
 use line_world::Buffers;
@@ -14,18 +16,6 @@ use sentence_parts::{number, push_parts, words};
 use std::alloc::{AllocError, Global};
 use std::marker::Model;
 use story_accounts::{Account, Chosen, Index};
-
-fn push_bad_line(text: &mut String, alloc: Global, bad: Option<BadLine>) -> Result<(), AllocError>
-    ensures { OnOk result (string_bytes text.new ≡ string_bytes text.old ++ explain_runs.bad_line_text bad) }
-{
-    match bad {
-        None => Ok(()),
-        Some(bad) => {
-            push_bad(text, alloc, bad)?;
-            text.push_str("\n")
-        }
-    }
-}
 
 #[tactic(auto, unfolding(crate::specs::ExplainRuns::counts_text))]
 fn push_counts(text: &mut String, alloc: Global, run: &Recorder) -> Result<(), AllocError>
@@ -272,6 +262,7 @@ pub struct Explain {
     chosen: Chosen,
     run: Recorder,
     run_sentences: RunSentences,
+    journal: Journal,
 }
 
 impl Model for Explain {
@@ -297,10 +288,23 @@ impl Explain {
             chosen,
             run,
             run_sentences: RunSentences::new(alloc),
+            journal: Journal::new(alloc),
         })
     }
 
-    // The whole text, with the bad line, if there is one.
+    // Whether all readings came, where the account is of the whole run.
+    fn first_line(&self) -> Result<String, AllocError>
+        ensures { IfOk result (λ line. explain_runs.IsFirstLine self.now.chosen self.now.run (string_bytes line)) }
+    {
+        match self.chosen {
+            Chosen::Failed => first_line(self.alloc, &self.run, &self.journal),
+            Chosen::All => first_line(self.alloc, &self.run, &self.journal),
+            Chosen::Send { .. } => Ok(String::new(self.alloc)),
+            Chosen::Node { .. } => Ok(String::new(self.alloc)),
+        }
+    }
+
+    // The whole text but the first line, with the bad line, if there is one.
     #[tactic(auto, unfolding(crate::specs::ExplainRuns::explain_text))]
     fn text(&self, bad: Option<BadLine>) -> Result<String, AllocError>
         ensures { IfOk result (λ text. string_bytes text ≡ explain_runs.explain_text self.now bad) }
@@ -317,6 +321,22 @@ impl Explain {
         )?;
         Ok(text)
     }
+
+    // The text with a bad line.
+    fn octets(&self, bad: BadLine) -> Result<Vec<u8>, AllocError>
+        ensures { IfOk result (λ octets. octets.items ≡ explain_runs.explain_text self.now (Some bad)) }
+    {
+        let text = self.text(Some(bad))?;
+        Ok(text.into_bytes())
+    }
+}
+
+fn joined(line: String, rest: &str) -> Result<Vec<u8>, AllocError>
+    ensures { IfOk result (λ octets. octets.items ≡ string_bytes line ++ rest.now) }
+{
+    let mut text = line;
+    text.push_str(rest)?;
+    Ok(text.into_bytes())
 }
 
 impl RunMachine for Explain {
@@ -334,16 +354,21 @@ impl RunMachine for Explain {
             return Ok(refusal);
         }
         self.run_sentences.add_sentence(&mut self.run, event)?;
+        let clock = self.run.clock();
+        self.journal.take_event(self.alloc, event, clock)?;
         Ok(None)
     }
 
-    fn take_quiet(&mut self, _line: &[u8]) -> Result<(), AllocError> {
-        Ok(())
+    fn take_quiet(&mut self, line: &[u8]) -> Result<(), AllocError> {
+        self.journal.take_line(self.alloc, line)
     }
 
+    // Of a run that ends at a bad line nobody says how many readings came.
     fn output(&self, bad: Option<BadLine>) -> Result<Vec<u8>, AllocError> {
-        let text = self.text(bad)?;
-        Ok(text.into_bytes())
+        match bad {
+            None => Ok(Vec::new(self.alloc)),
+            Some(bad) => self.octets(bad),
+        }
     }
 
     fn finding(&self) -> Finding {
@@ -351,5 +376,16 @@ impl RunMachine for Explain {
             return forged_if(self.run.is_forged());
         }
         Finding::NotThere
+    }
+}
+
+impl LastText for Explain {
+    ghost says = { explain_runs.says };
+
+    fn last_text(&self) -> Result<Vec<u8>, AllocError> {
+        let line = self.first_line()?;
+        let rest = self.text(None)?;
+        let octets = joined(line, rest.as_str())?;
+        Ok(octets)
     }
 }

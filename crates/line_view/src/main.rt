@@ -7,12 +7,14 @@ mod capture;
 mod check;
 mod checker;
 mod explain;
+mod held_text;
 mod laws;
 mod octet_output;
 mod page;
 mod recorder;
 mod run_machine;
 mod run_sentences;
+mod tables;
 mod tool;
 
 use plc_base::{StdSink, StdSource};

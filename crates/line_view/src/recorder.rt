@@ -131,6 +131,13 @@ impl Recorder {
         0 < self.world.counts().forged
     }
 
+    /// The clock after the last event, in seconds.
+    pub fn clock(&self) -> u64
+        ensures { result ≡ self.now.world.clock }
+    {
+        self.world.clock()
+    }
+
     // Adds the flight of this number to the record, if there is one.
     #[tactic(auto, unfolding(crate::specs::Recordings::flight_recorded))]
     fn push_flight(&mut self, number: u32) -> Result<(), AllocError>

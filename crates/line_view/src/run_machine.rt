@@ -1,5 +1,5 @@
 //! A machine that records the run of a script, and writes where the run ends.
-ghost use Rattle.std.specs.Prelude.{◌≡◌, IfOk, OnOk, ℕ, []};
+ghost use Rattle.std.specs.Prelude.{◌≡◌, IfOk, OnOk, List, ℕ, []};
 ghost use Rattle.line_events.specs.Events.{IsEvent};
 ghost use Rattle.script_lines.specs.Clauses.{GoesOn, StopsWith, Turned};
 ghost use Rattle.script_lines.specs.Lines.{Content, Text};
@@ -79,6 +79,16 @@ pub trait RunMachine: Drop {
         ensures { result ≡ rules.finding self.now };
 }
 
+/// What is written where the run came to its end: a text of which a property is known, and not each octet.
+pub trait LastText: Drop {
+    /// What is known of it.
+    ghost says: { Self → List ℕ → Type 0 };
+
+    /// The text. It fails only where memory runs out.
+    fn last_text(&self) -> Result<Vec<u8>, AllocError>
+        ensures { IfOk result (λ octets. says self.now octets.items) };
+}
+
 /// Gives the lines of a script to a machine. A contract sees the machine.
 #[derive(Drop)]
 pub struct Lines<M> {
@@ -112,6 +122,15 @@ impl<M: RunMachine> Lines<M> {
         ensures { result ≡ M.rules.finding self.now }
     {
         self.machine.finding()
+    }
+}
+
+impl<M: LastText> Lines<M> {
+    /// What is written where the run came to its end. It fails only where memory runs out.
+    pub fn last_text(&self) -> Result<Vec<u8>, AllocError>
+        ensures { IfOk result (λ octets. M.says self.now octets.items) }
+    {
+        self.machine.last_text()
     }
 }
 

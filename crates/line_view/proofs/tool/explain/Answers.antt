@@ -9,4 +9,4 @@ returns-clause-explains g c =
     let first : ExplainRun = nothing_explained c.args.chosen in
     let follows : FollowsRun rules first
     = record { begins = refl; entries = λ row entry m. recorded_world row entry m.run; quiet = λ m content. tt } in
-    c.account.ensures.accounts first c.new.ensures follows
+    c.tell.ensures.tells first c.new.ensures follows

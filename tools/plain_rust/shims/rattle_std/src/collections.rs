@@ -54,6 +54,10 @@ impl<K: Ord, V> BTreeMap<K, V> {
         self.0.keys()
     }
 
+    pub fn values(&self) -> heap::collections::btree_map::Values<'_, K, V> {
+        self.0.values()
+    }
+
     pub fn iter(&self) -> heap::collections::btree_map::Iter<'_, K, V> {
         self.0.iter()
     }
