@@ -169,6 +169,15 @@ def wrong_counts(lines, entries, last, status, figures, polled):
     for name, said in figures["came_ms"].items():
         if not lies_between(least[name], said, most[name]):
             wrong.append(f"came_ms.{name}: {said}, and {least[name]} to {most[name]} by the script")
+    by_hops = {}
+    for hops, took in zip(run.hops, run.took.values()):
+        by_hops.setdefault(hops, []).append(took)
+    same("by_hops", [(it, len(by_hops[it])) for it in sorted(by_hops)], [(it["hops"], it["came"]) for it in figures["by_hops"]])
+    for it in figures["by_hops"]:
+        least, most = (spread([took[at] for took in by_hops.get(it["hops"], [])]) for at in (0, 1))
+        for name, said in it["came_ms"].items():
+            if not lies_between(least[name], said, most[name]):
+                wrong.append(f"by_hops {it['hops']}, {name}: {said}, and {least[name]} to {most[name]} by the script")
     join = figures["join_ms"]
     if not (join["median"] is join["last"] is None or join["median"] <= join["most"] <= join["last"]):
         wrong.append(f"join_ms: {join}")

@@ -2,6 +2,7 @@
 use crate::changes::ChangeFigures;
 use crate::figures::Figures;
 use crate::frames::FrameFigures;
+use crate::readings::HopFigures;
 use crate::spread::Spread;
 use crate::words::WordCount;
 use serde::Serialize;
@@ -52,7 +53,8 @@ struct Summary<'a> {
     came_ms: Spread,
     /// Hundredths of a hop, on average.
     hops_hundredths: Option<u64>,
-    most_hops: u64,
+    most_hops: u32,
+    by_hops: &'a [HopFigures],
     restarts: u64,
     air_ms: u64,
     frames_sent: u64,
@@ -79,6 +81,7 @@ impl Figures {
         line: &Line<'_>,
         ending: &Ending,
     ) -> Result<String, AllocError> {
+        let by_hops = self.readings.by_hops(alloc)?;
         let summary = Summary {
             title: line.title,
             seed: line.seed,
@@ -96,9 +99,10 @@ impl Figures {
             came: self.readings.came,
             known: self.readings.known,
             tries: self.readings.tries,
-            came_ms: Spread::of(&mut self.readings.took)?,
+            came_ms: self.readings.came_ms(alloc)?,
             hops_hundredths: hundredths(self.readings.hops, self.readings.came),
             most_hops: self.readings.most_hops,
+            by_hops: by_hops.as_slice(),
             restarts: self.restarts,
             air_ms: self.on_air / 1_000,
             frames_sent: self.frames.sent.all(),

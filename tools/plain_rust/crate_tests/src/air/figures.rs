@@ -30,6 +30,8 @@ fn has_what_was_counted() {
     let begin =
         "{\"title\":\"a \\\"line\\\"\",\"seed\":1,\"meters\":1,\"links\":2,\"whole\":true,\"until_s\":86400,\"events\":7,\"flights\":1";
     assert!(rt; summary.as_str().starts_with(begin));
+    let by_hops = "\"most_hops\":2,\"by_hops\":[{\"hops\":2,\"came\":1,\"came_ms\":{\"median\":500,\"most\":500,\"last\":500}}],\"restarts\":0";
+    assert!(rt; summary.as_str().contains(by_hops));
     Ok(())
 })
 }
