@@ -4,7 +4,7 @@ use Rattle.std.specs.Prelude.{if◌then◌else◌}
 use Rattle.std.specs.Prelude.{count_by, position, slice_get}
 use Rattle.line_script.specs.declared.kind.EventKind.{EventKind}
 use Rattle.line_script.specs.Kinds.{kind_named, kind_word}
-use Rattle.sentence_parts.specs.declared.part.Part.TheVariants.{Words, Number, Octets}
+use Rattle.sentence_parts.specs.declared.part.Part.TheVariants.{Words, Count, Octets}
 use Rattle.sentence_parts.specs.Parts.{parts_text}
 use Rattle.script_faults.specs.Findings.{FindingParts, finding_at, noted}
 use Rattle.script_faults.specs.LineWords.{rest_at, word_at, spaces_at}
@@ -169,15 +169,11 @@ comment_behind at end =
     (parts_text (Words (codes "a comment stands behind a line's words") ∷ []))
     (parts_text (Words (codes "remove this") ∷ []))
 
-abbrev pub words_text : ℕ → List ℕ
-words_text count = if count == 1 then codes " word" else codes " words"
-
 unfoldable pub more_words : EventKind → ℕ → ℕ → ℕ → FindingParts
 more_words kind count at end =
     finding_at at end
     (parts_text
-    (Words (codes "`") ∷ Words (kind_word kind) ∷ Words (codes "` has ") ∷ Number count ∷ Words (words_text count)
-    ∷ Words (codes ", and more stands here") ∷ []))
+    (Words (codes "`") ∷ Words (kind_word kind) ∷ Words (codes "` has ") ∷ Count count (codes "word") ∷ Words (codes ", and more stands here") ∷ []))
     (parts_text (Words (codes "not expected") ∷ []))
 
 -- more octets than words

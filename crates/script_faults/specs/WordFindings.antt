@@ -230,24 +230,17 @@ no_hex w place =
 abbrev pub no_digit : Wrong → ℕ → FindingParts
 no_digit w place = with_plain (begins_hex w.word) (is_separator (slice_get w.word place)) (no_hex w place)
 
-abbrev pub digits_text : ℕ → List ℕ
-digits_text count = if count == 1 then codes " digit" else codes " digits"
-
 unfoldable pub many_finding : Wrong → ℕ → FindingParts
 many_finding w count =
     finding_at (w.at + count) (w.at + length w.word)
-    (parts_text
-    (parts.Words (codes "expected ") ∷ parts.Words w.want ∷ parts.Words (codes ", found ") ∷ parts.Number (length w.word)
-    ∷ parts.Words (codes " digits") ∷ []))
-    (parts_text (parts.Number (length w.word - count) ∷ parts.Words (digits_text (length w.word - count)) ∷ parts.Words (codes " too many") ∷ []))
+    (parts_text (parts.Words (codes "expected ") ∷ parts.Words w.want ∷ parts.Words (codes ", found ") ∷ parts.Count (length w.word) (codes "digit") ∷ []))
+    (parts_text (parts.Count (length w.word - count) (codes "digit") ∷ parts.Words (codes " too many") ∷ []))
 
 unfoldable pub few_finding : Wrong → ℕ → FindingParts
 few_finding w count =
     finding_at w.at (w.at + length w.word)
-    (parts_text
-    (parts.Words (codes "expected ") ∷ parts.Words w.want ∷ parts.Words (codes ", found ") ∷ parts.Number (length w.word)
-    ∷ parts.Words (codes " digits") ∷ []))
-    (parts_text (parts.Number (count - length w.word) ∷ parts.Words (digits_text (count - length w.word)) ∷ parts.Words (codes " too few") ∷ []))
+    (parts_text (parts.Words (codes "expected ") ∷ parts.Words w.want ∷ parts.Words (codes ", found ") ∷ parts.Count (length w.word) (codes "digit") ∷ []))
+    (parts_text (parts.Count (count - length w.word) (codes "digit") ∷ parts.Words (codes " too few") ∷ []))
 
 abbrev pub digits_by : Option ℕ → Wrong → ℕ → FindingParts
 digits_by (Some place) w count = no_digit w place
@@ -256,7 +249,7 @@ digits_by None w count = if nat_lt count (length w.word) then many_finding w cou
 unfoldable pub odd_finding : Wrong → FindingParts
 odd_finding w =
     finding_at w.at (w.at + length w.word)
-    (parts_text (parts.Words (codes "octets are pairs of digits, and here are ") ∷ parts.Number (length w.word) ∷ parts.Words (codes " digits") ∷ []))
+    (parts_text (parts.Words (codes "octets are pairs of digits, found ") ∷ parts.Count (length w.word) (codes "digit") ∷ []))
     (parts_text (parts.Words (codes "one digit too few or too many") ∷ []))
 
 abbrev pub pairs_by : Option ℕ → Wrong → FindingParts

@@ -16,7 +16,7 @@ use crate::wording::{first_words, form_words, other_words, wanted, word_count};
 use crate::wrong_words::{in_lower_case, is_octet, tab, with_form, word_finding, wrong_word};
 use crate::{Finding, rest_at, spaces_at, word_at};
 use line_script::EventKind;
-use sentence_parts::{number, octets, words};
+use sentence_parts::{count_of, octets, words};
 use std::alloc::{AllocError, Global};
 
 fn is_space(octet: u8) -> usize
@@ -392,15 +392,6 @@ fn comment_behind(alloc: Global, at: usize, end: usize) -> Result<Finding, Alloc
     )
 }
 
-fn words_text(count: usize) -> &'static str
-    ensures { result.now ≡ findings.words_text count }
-{
-    if count == 1 {
-        return " word";
-    }
-    " words"
-}
-
 #[tactic(auto, unfolding(crate::specs::LineFindings::more_words))]
 fn more_words(
     alloc: Global,
@@ -420,8 +411,7 @@ fn more_words(
             words("`"),
             words(word),
             words("` has "),
-            number(count),
-            words(words_text(count)),
+            count_of(count, "word"),
             words(", and more stands here"),
         ],
         &[words("not expected")],

@@ -10,7 +10,7 @@ use crate::form::WordKind;
 use crate::wording::{Shape, form_words, shape_of, wanted};
 use crate::{Finding, rest_at};
 use line_script::EventKind;
-use sentence_parts::{number, octets, words};
+use sentence_parts::{count_of, octets, words};
 use std::alloc::{AllocError, Global};
 use std::marker::Model;
 use strsim::osa_distance;
@@ -624,15 +624,6 @@ fn no_digit(alloc: Global, wrong: &WrongWord<'_>, place: usize) -> Result<Findin
     )
 }
 
-fn digits_words(count: usize) -> &'static str
-    ensures { result.now ≡ findings.digits_text count }
-{
-    if count == 1 {
-        return " digit";
-    }
-    " digits"
-}
-
 #[tactic(auto, unfolding(crate::specs::WordFindings::many_finding))]
 fn too_many(alloc: Global, wrong: &WrongWord<'_>, count: usize) -> Result<Finding, AllocError>
     requires { count < length wrong.now.word }
@@ -647,14 +638,9 @@ fn too_many(alloc: Global, wrong: &WrongWord<'_>, count: usize) -> Result<Findin
             words("expected "),
             words(wrong.want),
             words(", found "),
-            number(length),
-            words(" digits"),
+            count_of(length, "digit"),
         ],
-        &[
-            number(length - count),
-            words(digits_words(length - count)),
-            words(" too many"),
-        ],
+        &[count_of(length - count, "digit"), words(" too many")],
     )
 }
 
@@ -672,10 +658,9 @@ fn too_few(alloc: Global, wrong: &WrongWord<'_>, count: usize) -> Result<Finding
             words("expected "),
             words(wrong.want),
             words(", found "),
-            number(length),
-            words(" digits"),
+            count_of(length, "digit"),
         ],
-        &[number(few), words(digits_words(few)), words(" too few")],
+        &[count_of(few, "digit"), words(" too few")],
     )
 }
 
@@ -700,9 +685,8 @@ fn odd_digits(alloc: Global, wrong: &WrongWord<'_>) -> Result<Finding, AllocErro
         wrong.at,
         wrong.at + wrong.word.len(),
         &[
-            words("octets are pairs of digits, and here are "),
-            number(wrong.word.len()),
-            words(" digits"),
+            words("octets are pairs of digits, found "),
+            count_of(wrong.word.len(), "digit"),
         ],
         &[words("one digit too few or too many")],
     )

@@ -3,7 +3,7 @@ use Rattle.std.specs.Prelude.{ℕ, ◌==◌, List, [], ◌∷◌, ◌++◌, code
 use Rattle.std.specs.Fmt.{decimal}
 use Rattle.hex.specs.Hex.{encode_lower}
 use Rattle.frame_facts.specs.Words.{short_word}
-use Rattle.text_signs.specs.Quotes.{octets_text}
+use Rattle.text_signs.specs.Quotes.{quoted_text}
 use Rattle.sentence_parts.specs.declared.part.Who.{Who}
 use Rattle.sentence_parts.specs.declared.part.Who.TheVariants as whos
 use Rattle.sentence_parts.specs.declared.part.Part.{Part}
@@ -23,6 +23,12 @@ who_text (whos.Address address) = short_word address
 who_text (whos.Device eui) = codes "EUI " ++ encode_lower eui.0
 who_text whos.Nobody = codes "?"
 
+-- # Counts
+
+-- a number of things, by the noun of one
+abbrev pub count_text : ℕ → List ℕ → List ℕ
+count_text number noun = decimal number ++ (codes " " ++ (noun ++ (if number == 1 then [] else codes "s")))
+
 -- # Sentences
 
 -- a part of a sentence
@@ -32,7 +38,8 @@ part_text (parts.Number number) = decimal number
 part_text (parts.Node node) = node_text node
 part_text (parts.Place who) = who_text who
 part_text (parts.Short address) = short_word address
-part_text (parts.Octets octets) = octets_text octets
+part_text (parts.Count number noun) = count_text number noun
+part_text (parts.Octets octets) = quoted_text octets
 
 -- a sentence
 abbrev pub parts_text : List Part → List ℕ

@@ -14,7 +14,8 @@ mod weaving;
 mod who;
 
 pub use part::{
-    Part, Who, WordsRef, decimal_width, node, number, octets, place, push_parts, sentence, words,
+    Part, Who, WordsRef, count_of, decimal_width, node, number, octets, place, push_parts,
+    sentence, words,
 };
 pub use weaving::{push_woven, woven};
 pub use who::{device_of, node_with, who_at, who_of, who_with};

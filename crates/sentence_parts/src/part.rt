@@ -8,7 +8,7 @@ use itoa::Buffer;
 use plc_base::{Eui, OctetRef};
 use std::alloc::{AllocError, Global};
 use std::marker::Model;
-use text_signs::push_octets;
+use text_signs::push_quoted;
 
 /// Whom a frame is for, or from, or which node has an address.
 #[derive(Clone, Copy)]
@@ -68,7 +68,9 @@ pub enum Part<'a> {
     Place { who: Who },
     /// A short address, as 4 digits in hexadecimal.
     Short { address: u16 },
-    /// Octets of a script: what is no printable character of ASCII as `\x0d`.
+    /// A number of things, by the noun of one: "1 event" or "2 events".
+    Count { number: usize, noun: WordsRef<'a> },
+    /// Octets of a script, as a message quotes them: what is no printable character of ASCII as `\x0d`, and 64 of them at most.
     Octets { octets: OctetRef<'a> },
 }
 
@@ -100,6 +102,16 @@ pub fn place<'a>(who: Who) -> Part<'a>
     ensures { result ≡ Part.Place who }
 {
     Part::Place { who }
+}
+
+/// A number of things, by the noun of one.
+pub fn count_of<'a>(number: usize, noun: &'a str) -> Part<'a>
+    ensures { result ≡ Part.Count number noun.now }
+{
+    Part::Count {
+        number,
+        noun: WordsRef::new(noun),
+    }
 }
 
 /// Octets of a script.
@@ -155,6 +167,18 @@ fn push_place(text: &mut String, alloc: Global, who: Who) -> Result<(), AllocErr
     }
 }
 
+fn push_count(text: &mut String, number: usize, noun: &str) -> Result<(), AllocError>
+    ensures { OnOk result (string_bytes text.new ≡ string_bytes text.old ++ spec_parts.count_text number noun.now) }
+{
+    push_number(text, number)?;
+    text.push_str(" ")?;
+    text.push_str(noun)?;
+    if number == 1 {
+        return Ok(());
+    }
+    text.push_str("s")
+}
+
 pub(crate) fn push_part(text: &mut String, alloc: Global, part: &Part<'_>) -> Result<(), AllocError>
     ensures { OnOk result (string_bytes text.new ≡ string_bytes text.old ++ spec_parts.part_text part.now) }
 {
@@ -164,7 +188,8 @@ pub(crate) fn push_part(text: &mut String, alloc: Global, part: &Part<'_>) -> Re
         Part::Node { node } => push_node(text, *node),
         Part::Place { who } => push_place(text, alloc, *who),
         Part::Short { address } => push_short(text, alloc, *address),
-        Part::Octets { octets } => push_octets(text, alloc, octets.octets()),
+        Part::Count { number, noun } => push_count(text, *number, noun.words()),
+        Part::Octets { octets } => push_quoted(text, alloc, octets.octets()),
     }
 }
 

@@ -11,6 +11,6 @@ mod quotes;
 mod shown_texts;
 mod signs;
 
-pub use quotes::{MOST_QUOTED, is_printable, push_octets, quoted, quotes_are_plain};
+pub use quotes::{MOST_QUOTED, is_printable, push_quoted, quoted, quotes_are_plain};
 pub use shown_texts::shown;
 pub use signs::is_control;

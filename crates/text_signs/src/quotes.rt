@@ -25,8 +25,8 @@ fn push_octet(text: &mut String, alloc: Global, octet: u8) -> Result<(), AllocEr
     text.push_str(digits.as_str())
 }
 
-/// Appends octets, those that are no printable characters of ASCII as `\x` and two digits in hexadecimal. After an error the text may end anywhere among them.
-pub fn push_octets(text: &mut String, alloc: Global, octets: &[u8]) -> Result<(), AllocError>
+// Appends octets, those that are no printable characters of ASCII as `\x` and two digits in hexadecimal.
+fn push_octets(text: &mut String, alloc: Global, octets: &[u8]) -> Result<(), AllocError>
     ensures { OnOk result (string_bytes text.new ≡ string_bytes text.old ++ octets_text octets.now) }
 {
     for octet in octets {
@@ -44,16 +44,22 @@ fn push_dots(text: &mut String, is_cut: bool) -> Result<(), AllocError>
     Ok(())
 }
 
-/// Octets as a message quotes them: the first 64 by [`push_octets`], with two points where there are more.
-///
-/// It fails only where memory runs out.
+/// Appends octets as a message quotes them: the first 64, those that are no printable characters of ASCII as `\x` and two digits in hexadecimal, with two points
+/// where there are more. After an error the text may end anywhere among them.
+pub fn push_quoted(text: &mut String, alloc: Global, octets: &[u8]) -> Result<(), AllocError>
+    ensures { OnOk result (string_bytes text.new ≡ string_bytes text.old ++ quoted_text octets.now) }
+{
+    let shown = octets.len().min(MOST_QUOTED);
+    push_octets(text, alloc, &octets[..shown])?;
+    push_dots(text, octets.len() > MOST_QUOTED)
+}
+
+/// Octets as a message quotes them, by [`push_quoted`]. It fails only where memory runs out.
 pub fn quoted(alloc: Global, octets: &[u8]) -> Result<String, AllocError>
     ensures { IfOk result (λ text. string_bytes text ≡ quoted_text octets.now) }
 {
     let mut text = String::new(alloc);
-    let shown = octets.len().min(MOST_QUOTED);
-    push_octets(&mut text, alloc, &octets[..shown])?;
-    push_dots(&mut text, octets.len() > MOST_QUOTED)?;
+    push_quoted(&mut text, alloc, octets)?;
     Ok(text)
 }
 
