@@ -32,14 +32,14 @@ fn unknown_key(alloc: Global, unknown: &Unknown<'_>) -> Result<UnknownKey, Alloc
 }
 
 // The place of the key that a cause is about.
-fn cause_place(text: &str, cause: &Cause) -> TextPlace
-    ensures { result ≡ cause_place text.now cause.now }
+fn cause_place(alloc: Global, text: &str, cause: &Cause) -> Result<TextPlace, AllocError>
+    ensures { IfOk result (λ place. place ≡ cause_place text.now cause.now) }
 {
     let octets = text.as_bytes();
     match cause {
-        Cause::Syntax(_) => TextPlace { line: 1, column: 1 },
-        Cause::Unknown(unknown) => place_of(octets, unknown.section, unknown.key.as_bytes()),
-        Cause::Wrong(wrong) => place_of(octets, wrong.section, wrong.key.word().as_bytes()),
+        Cause::Syntax(_) => Ok(TextPlace { line: 1, column: 1 }),
+        Cause::Unknown(unknown) => place_of(alloc, octets, unknown.section, unknown.key.as_str()),
+        Cause::Wrong(wrong) => place_of(alloc, octets, wrong.section, wrong.key.word()),
     }
 }
 
@@ -95,7 +95,10 @@ impl Plan {
         };
         match Plan::of_table(alloc, &table)? {
             Ok(plan) => Ok(plan),
-            Err(cause) => Err(PlanFault::At(cause_place(text, &cause), cause)),
+            Err(cause) => {
+                let place = cause_place(alloc, text, &cause)?;
+                Err(PlanFault::At(place, cause))
+            }
         }
     }
 }

@@ -1,10 +1,17 @@
 -- The lines of a text, one octet on.
 use Rattle.std.proofs.Common.{◌≡◌, ◌≢◌, ℕ, ◌+◌, ◌-◌, ◌<◌, ◌≤◌, List, [], ◌∷◌, ◌++◌, length, get_or, take, drop, refl, ap, ◌∙◌, arith}
+use Rattle.std.proofs.Common.{Option, None, Some, option_map}
+use Rattle.std.specs.Prelude.{is_some}
 use Rattle.std.proofs.lemmas.Bool.{ne_eqb}
 use Rattle.std.proofs.lemmas.List.{drop_more, take_more, get_or-drop, length-drop}
 use Rattle.plan_tables.specs.declared.text_places.Finder.{Finder}
 use Rattle.plan_tables.specs.declared.text_places.Step.TheVariants.{More}
 use Rattle.plan_tables.specs.TextPlaces.{found, line_step, lines_from}
+
+-- what there is, there is as another thing too
+pub still_some : {A B : Type 0} (f : A → B) (o : Option A) → is_some o ≡ is_some (option_map f o)
+still_some f None = refl
+still_some f (Some x) = refl
 
 -- a line feed ends a line
 pub lines_feed : (part text : List ℕ) (at : ℕ) → at < length text → get_or text at 0 ≡ 10

@@ -3,7 +3,10 @@ use Rattle.std.specs.Prelude.{◌≡◌, ℕ, zero, suc, ◌+◌, ◌==◌, ◌&
 use Rattle.std.specs.Prelude.{[], ◌∷◌, ◌++◌, length, take, drop, codes, Bool, true, false, if◌then◌else◌}
 use Rattle.std.specs.Prelude.{Option, None, Some, is_some}
 use Rattle.std.specs.Str.{bytes_eq}
+use Rattle.std.specs.Str.Lossy.{utf8_lossy}
 use Rattle.std.specs.Option.{option_and_then}
+use Rattle.toml.specs.Data.{get_member}
+use Rattle.toml.specs.Parse.{parse_document}
 use Rattle.plan_tables.specs.declared.fault.Section.{Section}
 use Rattle.plan_tables.specs.declared.fault.Section.TheVariants as sections
 use Rattle.plan_tables.specs.declared.fault.TextPlace.{TextPlace}
@@ -61,9 +64,22 @@ named name (Some rest) = is_followed name (codes "]") rest
 unfoldable pub names : List ℕ → List ℕ → Bool
 names line name = named name (name_after line)
 
--- whether a line gives a key, or a key of the table of that name
+-- whether a line begins with a key, or with a key of the table of that name
 unfoldable pub is_key : List ℕ → List ℕ → Bool
 is_key line key = is_followed key (codes "=") line || is_followed key (codes ".") line
+
+-- whether a line begins with a quotation mark
+abbrev pub is_quoted : List ℕ → Bool
+is_quoted [] = false
+is_quoted (c ∷ cs) = c == 34 || c == 39
+
+-- whether a line is TOML by itself, and gives a key
+unfoldable pub gives_alone : List ℕ → List ℕ → Bool
+gives_alone line key = is_some (option_and_then (get_member key) (parse_document (utf8_lossy line)))
+
+-- whether a line gives a key: it begins with it, or with a quotation mark, and as TOML by itself it gives it
+abbrev pub gives_key : List ℕ → List ℕ → Bool
+gives_key line key = if is_quoted line then gives_alone line key else is_key line key
 
 -- # A text
 
@@ -108,7 +124,7 @@ line_step name key finder line =
     let here : TextPlace = record { line = finder.number; column = indent line + 1 } in
     if opens (content line) then
     (if length name == 0 && names (content line) key then Found here else More (turned finder here (names (content line) name)))
-    else if is_inside finder.search && is_key (content line) key then Found here
+    else if is_inside finder.search && gives_key (content line) key then Found here
     else More (record { number = finder.number + 1; search = finder.search; best = finder.best })
 
 -- the next line has the next number

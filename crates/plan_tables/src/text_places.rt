@@ -1,9 +1,13 @@
 //! Where a key stands in the text of a description.
-ghost use Rattle.std.specs.Prelude.{◌≡◌, ◌<◌, ◌≤◌, ◌^◌, length, take, option_map};
-ghost use Rattle.plan_tables.specs.TextPlaces.{indent, content, after, name_after, opens, names, is_key, entered};
+ghost use Rattle.std.specs.Prelude.{◌≡◌, ◌<◌, ◌≤◌, ◌^◌, ◌&&◌, IfOk, is_some, length, take, option_map};
+ghost use Rattle.toml.specs.Data.{get_member};
+ghost use Rattle.toml.specs.View.{table_view};
+ghost use Rattle.plan_tables.specs.TextPlaces.{indent, content, after, name_after, opens, names, is_key, is_quoted, gives_alone, gives_key, entered};
 ghost use Rattle.plan_tables.specs.TextPlaces.{start_of, is_inside, turned, line_step, IsNumbered, place_of, octet_place};
 
 use crate::fault::{Section, TextPlace};
+use std::alloc::{AllocError, Global};
+use toml::Table;
 
 /// Where the search for a table stands.
 #[derive(Clone, Copy, Debug, PartialEq, Eq)]
@@ -92,7 +96,7 @@ fn names(line: &[u8], name: &[u8]) -> bool
     }
 }
 
-// Whether a line gives a key, or a key of the table of that name.
+// Whether a line begins with a key, or with a key of the table of that name.
 #[tactic(auto, unfolding(crate::specs::TextPlaces::is_key))]
 fn is_key(line: &[u8], key: &[u8]) -> bool
     ensures { result ≡ is_key line.now key.now }
@@ -103,6 +107,49 @@ fn is_key(line: &[u8], key: &[u8]) -> bool
         }
         None => false,
     }
+}
+
+// Whether a line begins with a quotation mark.
+fn is_quoted(line: &[u8]) -> bool
+    ensures { result ≡ is_quoted line.now }
+{
+    match line.first() {
+        Some(first) => *first == b'"' || *first == b'\'',
+        None => false,
+    }
+}
+
+fn has_key(table: &Table, key: &str) -> bool
+    ensures { result ≡ is_some (get_member key.now (table_view table.now)) }
+{
+    table.get(key).is_some()
+}
+
+// Whether a line is TOML by itself, and gives a key.
+#[tactic(auto, unfolding(crate::specs::TextPlaces::gives_alone))]
+fn gives_alone(alloc: Global, line: &[u8], key: &str) -> Result<bool, AllocError>
+    ensures { IfOk result (λ gives. gives ≡ gives_alone line.now key.now) }
+{
+    let text = String::from_utf8_lossy(alloc, line)?;
+    match toml::table_from_str(alloc, text.as_str()) {
+        Ok(table) => Ok(has_key(&table, key)),
+        Err(error) => {
+            if error.is_memory() {
+                return Err(AllocError);
+            }
+            Ok(false)
+        }
+    }
+}
+
+// Whether a line gives a key: it begins with it, or with a quotation mark, and as TOML by itself it gives it.
+fn gives_key(alloc: Global, line: &[u8], key: &str) -> Result<bool, AllocError>
+    ensures { IfOk result (λ gives. gives ≡ gives_key line.now key.now) }
+{
+    if is_quoted(line) {
+        return gives_alone(alloc, line, key);
+    }
+    Ok(is_key(line, key.as_bytes()))
 }
 
 // The search after a header.
@@ -181,10 +228,21 @@ fn turned(finder: Finder, here: TextPlace, is_named: bool) -> Finder
     }
 }
 
-// After a line. A table is a key outside all tables, where the name is empty, and its header is the place of this key.
+// Whether a line among those of the table gives the key.
+fn is_given(alloc: Global, search: Search, line: &[u8], key: &str) -> Result<bool, AllocError>
+    ensures { IfOk result (λ given. given ≡ (is_inside search && gives_key line.now key.now)) }
+{
+    if !is_inside(search) {
+        return Ok(false);
+    }
+    gives_key(alloc, line, key)
+}
+
+// After a line, which gives the key or does not. A table is a key outside all tables, where the name is empty, and its header is the place of this key.
 #[tactic(auto, unfolding(crate::specs::TextPlaces::line_step, crate::specs::TextPlaces::turned))]
-fn line_step(finder: Finder, line: &[u8], name: &[u8], key: &[u8]) -> Step
-    requires { finder.number ≤ 2 ^ 63 }
+fn line_step(finder: Finder, line: &[u8], name: &[u8], key: &[u8], given: bool) -> Step
+    requires number { finder.number ≤ 2 ^ 63 }
+    requires given { given ≡ (is_inside finder.search && gives_key (content line.now) key.now) }
     ensures value { result ≡ line_step name.now key.now finder line.now }
     ensures numbered { IsNumbered finder.number result }
 {
@@ -199,7 +257,7 @@ fn line_step(finder: Finder, line: &[u8], name: &[u8], key: &[u8]) -> Step
         }
         return Step::More(turned(finder, here, names(content, name)));
     }
-    if is_inside(finder.search) && is_key(content, key) {
+    if given {
         return Step::Found(here);
     }
     Step::More(Finder {
@@ -209,26 +267,51 @@ fn line_step(finder: Finder, line: &[u8], name: &[u8], key: &[u8]) -> Step
     })
 }
 
-/// Where a key of a table stands: the first line of the table that gives it, or of a key outside all tables, the header of a table of that name. Where there
-/// is none, as in a table that is written within a line or under a key in quotes, the header of the table, or the start of the text.
-pub fn place_of(text: &[u8], section: Section, key: &[u8]) -> TextPlace
-    ensures { result ≡ place_of text.now section key.now }
+// What is known after a line.
+fn next_step(
+    alloc: Global,
+    finder: Finder,
+    line: &[u8],
+    name: &[u8],
+    key: &str,
+) -> Result<Step, AllocError>
+    requires { finder.number ≤ 2 ^ 63 }
+    ensures value { IfOk result (λ step. step ≡ line_step name.now key.now finder line.now) }
+    ensures numbered { IfOk result (λ step. IsNumbered finder.number step) }
+{
+    let given = is_given(alloc, finder.search, content(line), key)?;
+    Ok(line_step(finder, line, name, key.as_bytes(), given))
+}
+
+/// Where a key of a table stands: the first line of the table that gives it, or of a key outside all tables, the header of a table of that name. A line gives
+/// a key that it begins with, and one in quotes where the line is TOML by itself. Where no line does, as in a table that is written within a line or under a
+/// key in quotes, it is the header of the table, or the start of the text.
+///
+/// It fails only where memory runs out.
+pub fn place_of(
+    alloc: Global,
+    text: &[u8],
+    section: Section,
+    key: &str,
+) -> Result<TextPlace, AllocError>
+    ensures { IfOk result (λ place. place ≡ place_of text.now section key.now) }
 {
     let name = section.word().as_bytes();
     let mut finder = start_of(section);
     let mut start = 0;
     for at in 0..text.len() {
         if text[at] == b'\n' {
-            match line_step(finder, &text[start..at], name, key) {
-                Step::Found(place) => return place,
+            let step = next_step(alloc, finder, &text[start..at], name, key)?;
+            match step {
+                Step::Found(place) => return Ok(place),
                 Step::More(next) => finder = next,
             }
             start = at + 1;
         }
     }
-    match line_step(finder, &text[start..], name, key) {
-        Step::Found(place) => place,
-        Step::More(next) => next.best,
+    match next_step(alloc, finder, &text[start..], name, key)? {
+        Step::Found(place) => Ok(place),
+        Step::More(next) => Ok(next.best),
     }
 }
 

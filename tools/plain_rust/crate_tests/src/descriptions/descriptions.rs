@@ -79,6 +79,10 @@ fn has_the_place_of_a_fault() {
             "line 7, column 1: no key in [place] with kind = \"matrix\" is called `costs`; did you mean `cost`?",
         ),
         (
+            "[air]\n\"rate\" = \"robo\"\n\"r\\u0061tes\" = 1\n",
+            "line 3, column 1: no key in [air] is called `rates`; did you mean `rate`?",
+        ),
+        (
             "title = \"a\"\n[place]\nmeters = 2\n  [reading]\nevery = 3\n",
             "line 4, column 3: no key outside all tables is called `reading`; did you mean `readings`?",
         ),

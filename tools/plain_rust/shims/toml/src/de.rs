@@ -22,6 +22,10 @@ impl Error {
         Error { at: Some((start, message)) }
     }
 
+    pub(crate) fn too_deep(place: usize) -> Error {
+        Error { at: Some((place, "cannot recurse further; max recursion depth met".to_string())) }
+    }
+
     pub(crate) fn no_value() -> Error {
         Error { at: Some((0, "no value".to_string())) }
     }

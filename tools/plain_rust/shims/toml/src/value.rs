@@ -1,5 +1,6 @@
 //! The values of TOML.
 use crate::de::Error;
+use crate::depth::too_deep;
 use heap::format;
 use heap::string::ToString;
 use rattle_std::alloc::{AllocError, Global};
@@ -25,6 +26,9 @@ impl Value {
     /// The value that a text is, with nothing before it and after it. `toml` 0.5 reads whole texts alone. So a value is what may stand both after a key and
     /// in an array: the one has no second line after it, the other no comment.
     pub fn from_str(alloc: Global, text: &str) -> Result<Value, Error> {
+        if too_deep(text.as_bytes()).is_some() {
+            return Err(Error::no_value());
+        }
         let is_bare = text.trim_matches([' ', '\t', '\r', '\n']).len() == text.len();
         match (alone(&format!("it = {text}")), alone(&format!("it = [{text}]"))) {
             (Some(value), Some(_)) if is_bare => made(alloc, value).map_err(|_| Error::memory()),
