@@ -44,8 +44,8 @@ fn push_dots(text: &mut String, is_cut: bool) -> Result<(), AllocError>
     Ok(())
 }
 
-/// Appends octets as a message quotes them: the first 64, those that are no printable characters of ASCII as `\x` and two digits in hexadecimal, with two points
-/// where there are more. After an error the text may end anywhere among them.
+/// Appends octets as a message quotes them: the first 64, those that are no printable characters of ASCII as `\x` and two digits in hexadecimal, with two
+/// points where there are more. After an error the text may end anywhere among them.
 pub fn push_quoted(text: &mut String, alloc: Global, octets: &[u8]) -> Result<(), AllocError>
     ensures { OnOk result (string_bytes text.new ≡ string_bytes text.old ++ quoted_text octets.now) }
 {
