@@ -117,7 +117,7 @@ all_more : (e : RecordedEvent) (es : List RecordedEvent) → MakesNone e → All
 all_more e es one rest zero d inside = one
 all_more e es one rest (suc k) d inside = rest k d (omega (arith, inside))
 
-all_none : (xs : List Entry) (es : List RecordedEvent) (w : World) → IsRun network w xs → AreRecorded xs es → All MakesNone es
+pub all_none : (xs : List Entry) (es : List RecordedEvent) (w : World) → IsRun network w xs → AreRecorded xs es → All MakesNone es
 all_none [] [] w run recorded = λ k d inside. absurd (omega (arith, inside))
 all_none [] (e ∷ es) w run recorded = absurd recorded
 all_none (x ∷ xs) [] w run recorded = absurd recorded
@@ -130,19 +130,19 @@ step_at [] after x w run = run.2
 step_at (y ∷ ys) after x w run = step_at ys after x y.after run.3
 
 -- what is recorded of an entry, at its place
-record IsRecordedAt (x : Entry) (n : ℕ) (es : List RecordedEvent) : Type 0 where
-  event : RecordedEvent
-  there : slice_get es n ≡ Some event
-  recorded : IsRecordedOf x event
+pub record IsRecordedAt (x : Entry) (n : ℕ) (es : List RecordedEvent) : Type 0 where
+  pub event : RecordedEvent
+  pub there : slice_get es n ≡ Some event
+  pub recorded : IsRecordedOf x event
 
-recorded_at : (before after : List Entry) (x : Entry) (es : List RecordedEvent) → AreRecorded (before ++ (x ∷ after)) es → IsRecordedAt x (length before) es
+pub recorded_at : (before after : List Entry) (x : Entry) (es : List RecordedEvent) → AreRecorded (before ++ (x ∷ after)) es → IsRecordedAt x (length before) es
 recorded_at [] after x [] recorded = absurd recorded
 recorded_at [] after x (e ∷ es) recorded = record { event = e; there = refl; recorded = recorded.0 }
 recorded_at (y ∷ ys) after x [] recorded = absurd recorded
 recorded_at (y ∷ ys) after x (e ∷ es) recorded =
     let at = recorded_at ys after x es recorded.1 in record { event = at.event; there = at.there; recorded = at.recorded }
 
-numbered_at : (es : List RecordedEvent) (n : ℕ) → numbered es (n + 1) ≡ slice_get es n
+pub numbered_at : (es : List RecordedEvent) (n : ℕ) → numbered es (n + 1) ≡ slice_get es n
 numbered_at es n =
     ap (λ (b : Bool). if b then None else slice_get es (n + 1 - 1)) (ne_eqb (n + 1) 0 (λ e. absurd (omega (arith, e))))
     ∙ ap (λ (k : ℕ). slice_get es k) (omega arith)

@@ -4,9 +4,13 @@ mod Numbers
 mod PlainEvents
 mod QuietEvents
 mod Ends
-mod Keepings
-mod KeptRuns
+pub mod Keepings
+pub mod KeptRuns
 mod Waits
 mod Numbered
 mod Fates
-mod FateRuns
+pub mod FateRuns
+mod StoryCores
+mod Dones
+mod DoneStories
+pub mod DoneRuns

@@ -1,7 +1,7 @@
 -- Lists whose items have numbers from 1.
 use Rattle.std.proofs.Common.{◌≡◌, ◌≢◌, ℕ, zero, suc, ◌+◌, ◌-◌, ◌≤◌, ◌<◌, ◌==◌, Bool, List, [], ◌∷◌, ◌++◌, length, Option, Some, None}
 use Rattle.std.proofs.Common.{refl, sym, ap, ◌∙◌, ◌⊎◌, inl, inr, ⊎_elim, arith}
-use Rattle.std.specs.Prelude.{false, if◌then◌else◌, slice_get, slice_set}
+use Rattle.std.specs.Prelude.{false, if◌then◌else◌, map, slice_get, slice_set}
 use Rattle.std.proofs.lemmas.Bool.{ne_eqb}
 use Rattle.std.proofs.lemmas.Option.{none-some, same_Some}
 use Rattle.store_tables.proofs.SlotTables.{slice_get-push}
@@ -134,3 +134,77 @@ module _ {A : Type 0} where
         ⊎_elim (λ (same : (k ≡ n) × (y ≡ f was.0)). inl (ap suc same.0, same.1))
             (λ (other : (k ≢ n) × (y ≡ was.0)). inr (λ e. other.0 (omega (arith, e)), other.1)) was.2,
       )
+
+  -- # Items that go on
+
+  left_place : (xs ys : List A) (k : ℕ) (x : A) → slice_get xs k ≡ Some x → slice_get (xs ++ ys) k ≡ Some x
+  left_place [] ys k x is = absurd (none-some x is)
+  left_place (z ∷ xs) ys zero x is = is
+  left_place (z ∷ xs) ys (suc k) x is = left_place xs ys k x is
+
+  -- an item of a list has its number in a longer one
+  pub left_number : (xs ys : List A) (k : ℕ) (x : A) → numbered xs k ≡ Some x → numbered (xs ++ ys) k ≡ Some x
+  left_number xs ys zero x is = absurd (none-some x is)
+  left_number xs ys (suc k) x is = number_place (xs ++ ys) k ∙ left_place xs ys k x (sym (number_place xs k) ∙ is)
+
+  place_now : (f : A → A) (xs : List A) (k i : ℕ) (x : A) → slice_get xs i ≡ Some x
+      → (y : A) × (slice_get (changed_place (slice_get xs k) k f xs) i ≡ Some y) × ((y ≡ f x) ⊎ (y ≡ x))
+  place_now f [] k i x is = absurd (none-some x is)
+  place_now f (z ∷ xs) zero zero x is = (f z, refl, inl (ap f (same_Some z x is)))
+  place_now f (z ∷ xs) zero (suc i) x is = (x, is, inr refl)
+  place_now f (z ∷ xs) (suc k) zero x is = (
+    x,
+    ap (λ (ys : List A). slice_get ys 0) (cons_changed (slice_get xs k) k f z xs) ∙ is,
+    inr refl,
+  )
+  place_now f (z ∷ xs) (suc k) (suc i) x is =
+      let rest = place_now f xs k i x is in (
+        rest.0,
+        ap (λ (ys : List A). slice_get ys (suc i)) (cons_changed (slice_get xs k) k f z xs) ∙ rest.1,
+        rest.2,
+      )
+
+  -- what an item is now of a list in which the item of a number was changed
+  pub number_now : (f : A → A) (xs : List A) (k n : ℕ) (x : A) → numbered xs n ≡ Some x
+      → (y : A) × (numbered (changed_at k f xs) n ≡ Some y) × ((y ≡ f x) ⊎ (y ≡ x))
+  number_now f xs k zero x is = absurd (none-some x is)
+  number_now f xs zero (suc n) x is = (x, is, inr refl)
+  number_now f xs (suc k) (suc n) x is =
+      let now = place_now f xs k n x (sym (number_place xs n) ∙ is) in (
+        now.0,
+        ap (λ (ys : List A). numbered ys (suc n)) (change_place k f xs) ∙ number_place (changed_place (slice_get xs k) k f xs) n ∙ now.1,
+        now.2,
+      )
+
+  place_kept : (f : A → A) → ((x : A) → f x ≡ x) → (xs : List A) (k : ℕ) → changed_place (slice_get xs k) k f xs ≡ xs
+  place_kept f same [] k = refl
+  place_kept f same (x ∷ xs) zero = ap (λ (y : A). y ∷ xs) (same x)
+  place_kept f same (x ∷ xs) (suc k) = cons_changed (slice_get xs k) k f x xs ∙ ap (λ (ys : List A). x ∷ ys) (place_kept f same xs k)
+
+  -- a change that changes nothing
+  pub kept_at : (f : A → A) → ((x : A) → f x ≡ x) → (xs : List A) (k : ℕ) → changed_at k f xs ≡ xs
+  kept_at f same xs zero = refl
+  kept_at f same xs (suc k) = change_place k f xs ∙ place_kept f same xs k
+
+-- # Items seen by a part of them
+
+module _ {A B : Type 0} (h : A → B) where
+  map_place : (f : A → A) (g : B → B) → ((x : A) → h (f x) ≡ g (h x)) → (xs : List A) (k : ℕ)
+      → map h (changed_place (slice_get xs k) k f xs) ≡ changed_place (slice_get (map h xs) k) k g (map h xs)
+  map_place f g is [] k = refl
+  map_place f g is (x ∷ xs) zero = ap (λ (y : B). y ∷ map h xs) (is x)
+  map_place f g is (x ∷ xs) (suc k) =
+      ap (map h) (cons_changed (slice_get xs k) k f x xs) ∙ ap (λ (ys : List B). h x ∷ ys) (map_place f g is xs k)
+      ∙ sym (cons_changed (slice_get (map h xs) k) k g (h x) (map h xs))
+
+  pub map_changed : (f : A → A) (g : B → B) → ((x : A) → h (f x) ≡ g (h x)) → (k : ℕ) (xs : List A)
+      → map h (changed_at k f xs) ≡ changed_at k g (map h xs)
+  map_changed f g is zero xs = refl
+  map_changed f g is (suc k) xs = ap (map h) (change_place k f xs) ∙ map_place f g is xs k ∙ sym (change_place k g (map h xs))
+
+  pub map_kept : (f : A → A) → ((x : A) → h (f x) ≡ h x) → (k : ℕ) (xs : List A) → map h (changed_at k f xs) ≡ map h xs
+  map_kept f is k xs = map_changed f (λ y. y) is k xs ∙ kept_at (λ y. y) (λ y. refl) (map h xs) k
+
+  pub map_pushed : (xs : List A) (y : A) → map h (xs ++ (y ∷ [])) ≡ map h xs ++ (h y ∷ [])
+  map_pushed [] y = refl
+  map_pushed (x ∷ xs) y = ap (λ (ys : List B). h x ∷ ys) (map_pushed xs y)

@@ -1,4 +1,5 @@
 //! Laws of what stories say: each stands as the contract of a function that does nothing.
+ghost use Rattle.story_laws.specs.Dones.{JoiningsAreDone, OrdersAreDone, OthersAreNeverDone, WalksAreDone};
 ghost use Rattle.story_laws.specs.Ends.{DropsAreEnds, EndsAreRecorded, RecordedEndsAreSo};
 ghost use Rattle.story_laws.specs.Fates.{FatesAreSo, HearingsAreSo};
 ghost use Rattle.story_laws.specs.Keepings.{KeptAreSince, WaitsAreKept};
@@ -43,4 +44,25 @@ pub fn fates_are_so()
 /// Where an event brings a flight to its node by the record, the entry of the run delivers it there, or injects its very octets.
 pub fn hearings_are_so()
     ensures { HearingsAreSo }
+{}
+
+/// Of a run and its record: a joining or a renewal is done, by its verdict, exactly where an entry of its story says that its meter is, and at the last
+/// that does.
+pub fn joinings_are_done()
+    ensures { JoiningsAreDone }
+{}
+
+/// Of a run and its record: an order is done, by its verdict, exactly where an entry of its story is that its node obeyed, and at the first that is.
+pub fn orders_are_done()
+    ensures { OrdersAreDone }
+{}
+
+/// Of a run and its record: a path request is done, by its verdict, exactly where an entry of its story brings an answer back, and at the first that does.
+pub fn walks_are_done()
+    ensures { WalksAreDone }
+{}
+
+/// Of a run and its record: by no verdict a broadcast, injected octets or what happens on the line is done.
+pub fn others_are_never_done()
+    ensures { OthersAreNeverDone }
 {}
