@@ -1,6 +1,6 @@
 -- Which sentences fit an option of a block.
 use Rattle.std.proofs.Common.{◌≡◌, ◌≤◌, ◌<◌, ◌^◌, ℕ, ◌*◌, List, [], ◌∷◌, ◌++◌, length, arith, length-append, subst, sym}
-use Rattle.std.specs.Prelude.{All, Bool, codes, false, if◌then◌else◌, true, ⊤}
+use Rattle.std.specs.Prelude.{All, Bool, ◌==◌, codes, false, if◌then◌else◌, true, ⊤}
 use Rattle.std.specs.Fmt.{decimal}
 use Rattle.std.proofs.lemmas.List.Elements.{All-cons, All-head, All-nil, All-tail}
 use Rattle.std.proofs.lemmas.Fmt.{length-decimal-le}
@@ -25,9 +25,9 @@ use Rattle.line_events.specs.declared.event.Answer.TheVariants.{Revisited, PathL
 use Rattle.line_events.specs.Answers.{is_ok}
 use Rattle.line_script.specs.AnswerWords.{answer_word, verdict_word}
 use Rattle.sentence_parts.specs.declared.part.Part.{Part}
-use Rattle.sentence_parts.specs.declared.part.Part.TheVariants.{Words, Number, Place as At}
+use Rattle.sentence_parts.specs.declared.part.Part.TheVariants.{Words, Number, Count, Place as At}
 use Rattle.sentence_parts.specs.declared.part.Who.TheVariants.{Device}
-use Rattle.sentence_parts.specs.Parts.{part_text, parts_text}
+use Rattle.sentence_parts.specs.Parts.{count_text, part_text, parts_text}
 use Rattle.line_capture.specs.Comments.{forged_words}
 use Rattle.line_capture.specs.Sentences.{AreFew, IsSentence, IsShort, IsSmall, said}
 
@@ -50,6 +50,21 @@ short_words part words e h = subst (λ (p : Part). IsShort p) (sym e) h
 
 pub short_numbered : (part : Part) (n : ℕ) → part ≡ Number n → n < 2 ^ 64 → IsShort part
 short_numbered part n e h = subst (λ (p : Part). IsShort p) (sym e) (short_number n h)
+
+short_ending : (one : Bool) → length (if one then [] else codes "s") ≤ 1
+short_ending true = omega arith
+short_ending false = omega arith
+
+short_count : (n : ℕ) (noun : List ℕ) → n < 2 ^ 64 → length noun ≤ 50 → length (count_text n noun) ≤ 100
+short_count n noun h few =
+    let ending : List ℕ = if n == 1 then [] else codes "s" in
+    let e = length-decimal-le 20 n (omega arith) (omega (arith, h)) h in
+    let a = length-append (decimal n) (codes " " ++ (noun ++ ending)) in
+    let b = length-append noun ending in
+    omega (arith, e, a, b, short_ending (n == 1), few)
+
+pub short_counted : (part : Part) (n : ℕ) (noun : List ℕ) → part ≡ Count n noun → n < 2 ^ 64 → length noun ≤ 50 → IsShort part
+short_counted part n noun e h few = subst (λ (p : Part). IsShort p) (sym e) (short_count n noun h few)
 
 -- words that are others
 pub short_said : (part : Part) (words said : List ℕ) → part ≡ Words words → words ≡ said → length said ≤ 100 → IsShort part

@@ -7,7 +7,7 @@ use Rattle.pcapng.specs.Blocks.{BlockOption, Block, Section, Interface, Packet, 
 use Rattle.pcapng.specs.Blocks.{direction_number, capture}
 use Rattle.pcapng.specs.declared.options.Direction.{Direction}
 use Rattle.pcapng.specs.declared.options.Direction.TheVariants.{Inbound, Outbound}
-use Rattle.sentence_parts.specs.declared.part.Part.TheVariants.{Words, Number, Place as At}
+use Rattle.sentence_parts.specs.declared.part.Part.TheVariants.{Words, Number, Count, Place as At}
 use Rattle.sentence_parts.specs.declared.part.Who.TheVariants.{Device}
 use Rattle.line_script.specs.declared.report.Totals.{Totals}
 use Rattle.line_record.specs.declared.act.Act.{Act}
@@ -49,8 +49,8 @@ pub record IsRun (run : Run) : Type 0 where
 
 abbrev pub totals_notes : Totals → List BlockOption
 totals_notes totals =
-    comment (Words (codes "run of script: ") ∷ Number totals.events ∷ Words (codes " events, ") ∷ Number totals.flights ∷ Words (codes " flights, ")
-    ∷ Number totals.sends ∷ Words (codes " sends, ") ∷ Number totals.ups ∷ Words (codes " handed up, ")
+    comment (Words (codes "run of script: ") ∷ Count totals.events (codes "event") ∷ Words (codes ", ") ∷ Count totals.flights (codes "flight")
+    ∷ Words (codes ", ") ∷ Count totals.sends (codes "send") ∷ Words (codes ", ") ∷ Number totals.ups ∷ Words (codes " handed up, ")
     ∷ Number totals.forged ∷ Words (codes " forged") ∷ [])
 
 -- a further comment, where there is one

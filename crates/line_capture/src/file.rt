@@ -14,7 +14,7 @@ use crate::recording::Recording;
 use line_script::Totals;
 use pcapng::{append_interface, append_section};
 use plc_base::Eui;
-use sentence_parts::{Who, number, place, words};
+use sentence_parts::{Who, count_of, number, place, words};
 use std::alloc::{AllocError, Global};
 
 // IEEE 802.15.4 without a frame check sequence, bare and after a head of its own (TAP).
@@ -28,12 +28,12 @@ fn note_totals(notes: &mut Notes, totals: &Totals) -> Result<(), AllocError>
 {
     notes.comment(&[
         words("run of script: "),
-        number(totals.events as usize),
-        words(" events, "),
-        number(totals.flights as usize),
-        words(" flights, "),
-        number(totals.sends as usize),
-        words(" sends, "),
+        count_of(totals.events as usize, "event"),
+        words(", "),
+        count_of(totals.flights as usize, "flight"),
+        words(", "),
+        count_of(totals.sends as usize, "send"),
+        words(", "),
         number(totals.ups as usize),
         words(" handed up, "),
         number(totals.forged as usize),

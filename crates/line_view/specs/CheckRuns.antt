@@ -16,7 +16,7 @@ use Rattle.line_record.specs.declared.recorded.RecordedEvent.{RecordedEvent}
 use Rattle.line_record.specs.Acts.{act_of}
 use Rattle.line_record.specs.Kinds.{is_setup}
 use Rattle.line_record.specs.RunRecords.{recorded_event}
-use Rattle.sentence_parts.specs.declared.part.Part.TheVariants.{Words, Number}
+use Rattle.sentence_parts.specs.declared.part.Part.TheVariants.{Words, Number, Count}
 use Rattle.sentence_parts.specs.Parts.{parts_text}
 use Rattle.script_faults.specs.Findings.{FindingParts, finding_at, noted}
 use Rattle.script_faults.specs.Texts.{finding_text, unseen_text, object_text}
@@ -223,7 +223,8 @@ bad_end c = first_text c.first c.reason ++ (more_text (c.bad - 1) ++ (codes "\n"
 unfoldable pub fine_end : CheckRun → List ℕ
 fine_end c =
     parts_text
-    (Words (codes "script: ") ∷ Number c.rows ∷ Words (codes " lines, ") ∷ Number (length c.events) ∷ Words (codes " events, no bad line\n") ∷ [])
+    (Words (codes "script: ") ∷ Count c.rows (codes "line") ∷ Words (codes ", ") ∷ Count (length c.events) (codes "event")
+    ∷ Words (codes ", no bad line\n") ∷ [])
 
 -- the last lines
 abbrev pub end_of : CheckRun → List ℕ

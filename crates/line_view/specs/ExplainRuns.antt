@@ -1,7 +1,7 @@
 -- What `explain` writes of a script.
 use Rattle.std.specs.Prelude.{◌≡◌, ℕ, ◌-◌, ◌==◌, ◌&&◌, Bool, true, nat_le, nat_lt, List, [], ◌∷◌, ◌++◌, codes, length, Option, None, Some, if◌then◌else◌}
 use Rattle.script_lines.specs.Outcomes.{Outcome, Skips}
-use Rattle.sentence_parts.specs.declared.part.Part.TheVariants.{Words, Number}
+use Rattle.sentence_parts.specs.declared.part.Part.TheVariants.{Words, Number, Count}
 use Rattle.sentence_parts.specs.Parts.{parts_text}
 use Rattle.line_record.specs.declared.ends.Ends.{Ends}
 use Rattle.line_record.specs.Verdicts.{ends_of}
@@ -37,8 +37,8 @@ nothing_explained chosen = record { chosen = chosen; run = no_recording; worded 
 unfoldable pub counts_text : World → List ℕ
 counts_text w =
     parts_text
-    (Words (codes "script: ") ∷ Number w.events ∷ Words (codes " events, ") ∷ Number (length w.flights) ∷ Words (codes " flights, ")
-    ∷ Number w.sends ∷ Words (codes " sends, ") ∷ Number w.ups ∷ Words (codes " handed up, ") ∷ Number w.forged ∷ Words (codes " forged\n") ∷ [])
+    (Words (codes "script: ") ∷ Count w.events (codes "event") ∷ Words (codes ", ") ∷ Count (length w.flights) (codes "flight") ∷ Words (codes ", ")
+    ∷ Count w.sends (codes "send") ∷ Words (codes ", ") ∷ Number w.ups ∷ Words (codes " handed up, ") ∷ Number w.forged ∷ Words (codes " forged\n") ∷ [])
 
 -- a run with its stories, the sentences of its events, the ends of its stories and what is looked up of it
 abbrev pub run_account : Recording → Sentences → Stories → List Ends → Index → RunAccount

@@ -17,7 +17,7 @@ use script_faults::{
     BadEvent, Finding, FirstOther, Made, line_finding, push_finding, push_object, push_unseen,
     word_of_reason,
 };
-use sentence_parts::{number, push_parts, words};
+use sentence_parts::{count_of, number, push_parts, words};
 use std::alloc::{AllocError, Global};
 use std::marker::Model;
 
@@ -508,10 +508,10 @@ impl Checker {
             self.alloc,
             &[
                 words("script: "),
-                number(rows),
-                words(" lines, "),
-                number(events),
-                words(" events, no bad line\n"),
+                count_of(rows, "line"),
+                words(", "),
+                count_of(events, "event"),
+                words(", no bad line\n"),
             ],
         )
     }

@@ -12,7 +12,7 @@ use line_readings::Journal;
 use line_record::{Ends, RunStories, ends_of, stories_of};
 use line_script::Reason;
 use line_world::Buffers;
-use sentence_parts::{number, push_parts, words};
+use sentence_parts::{count_of, number, push_parts, words};
 use std::alloc::{AllocError, Global};
 use std::marker::Model;
 use story_accounts::{Account, Chosen, Index};
@@ -27,12 +27,12 @@ fn push_counts(text: &mut String, alloc: Global, run: &Recorder) -> Result<(), A
         alloc,
         &[
             words("script: "),
-            number(counts.events as usize),
-            words(" events, "),
-            number(counts.flights as usize),
-            words(" flights, "),
-            number(counts.sends as usize),
-            words(" sends, "),
+            count_of(counts.events as usize, "event"),
+            words(", "),
+            count_of(counts.flights as usize, "flight"),
+            words(", "),
+            count_of(counts.sends as usize, "send"),
+            words(", "),
             number(counts.ups as usize),
             words(" handed up, "),
             number(counts.forged as usize),

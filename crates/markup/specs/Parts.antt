@@ -21,11 +21,17 @@ subheading words = Inside E.Heading3 [] (Words words)
 unfoldable pub name : List ℕ → Markup
 name words = Inside E.Heading1 [] (Words words)
 
+-- the words after a number: those of one, or those of none or more
+abbrev pub noun : ℕ → List ℕ → List ℕ → List ℕ
+noun number one more = if number == 1 then one else more
+
 unfoldable pub sizes : ℕ → ℕ → ℕ → Markup
 sizes nodes events frames =
     Both (Words (decimal nodes))
-    (Both (Words (codes " nodes, "))
-    (Both (Words (decimal events)) (Both (Words (codes " events, ")) (Both (Words (decimal frames)) (Words (codes " frames, "))))))
+    (Both (Words (noun nodes (codes " node, ") (codes " nodes, ")))
+    (Both (Words (decimal events))
+    (Both (Words (noun events (codes " event, ") (codes " events, ")))
+    (Both (Words (decimal frames)) (Words (noun frames (codes " frame, ") (codes " frames, ")))))))
 
 unfoldable pub clock : ℕ → Markup
 clock seconds = Both (Words (decimal seconds)) (Words (codes " s of the line's clock"))

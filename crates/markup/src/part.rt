@@ -54,6 +54,16 @@ pub fn push_name(out: &mut Vec<u8>, words: &str) -> Result<(), AllocError>
     )
 }
 
+// The words after a number: those of one, or those of none or more.
+fn noun(number: usize, one: &'static str, more: &'static str) -> &'static str
+    ensures { result.now ≡ parts.noun number one.now more.now }
+{
+    if number == 1 {
+        return one;
+    }
+    more
+}
+
 #[tactic(auto, unfolding(crate::specs::Parts::sizes))]
 fn push_sizes(
     out: &mut Vec<u8>,
@@ -67,11 +77,11 @@ fn push_sizes(
         out,
         &[
             count(nodes),
-            text(" nodes, "),
+            text(noun(nodes, " node, ", " nodes, ")),
             count(events),
-            text(" events, "),
+            text(noun(events, " event, ", " events, ")),
             count(frames),
-            text(" frames, "),
+            text(noun(frames, " frame, ", " frames, ")),
         ],
     )
 }
