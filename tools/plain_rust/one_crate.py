@@ -14,7 +14,10 @@ MACROS = {"format", "assert", "assert_eq", "assert_ne", "panic", "required", "pr
 # Lines of a root that are the crate's own business.
 ROOT_LINES = re.compile(r"^#!\[(no_std|allow\(unused\))\]\n|^#\[macro_use\]\nextern crate rattle_std as std;\n|^extern crate alloc as heap;\n"
                         r"|^#\[cfg\(any\(test, feature = \"std\"\)\)\]\nextern crate std as host;\n", re.MULTILINE)
-CLAUSE = re.compile(r"^\s*// (?=requires|ensures)")
+CLAUSES = ("requires", "ensures")
+FUNCTION, OF_TRAIT = re.compile(r"\s*pub (const )?fn "), re.compile(r"    fn ")
+# In documentation: a label in backquotes, and the path where it is another one.
+LINK = re.compile(r"\[`([^`\]]+)`\](?:\(([\w:]+)\))?")
 
 
 class Names:
@@ -96,22 +99,6 @@ def drop_item(ts, i, end):
         t.gone = True
 
 
-def without_dead(text, names):
-    """A file without functions and structs of these names, which nothing of a node calls. Returns it, and what it had of them."""
-    ts = rust_tokens(text)
-    found = set()
-    for i, t in enumerate(ts):
-        if t.kind == "ident" and not t.gone and t.text in ("fn", "struct") and (name := ts[step(ts, i)].text) in names:
-            end = closing(ts, body_of(ts, i)) if t.text == "fn" else step(ts, step(ts, i))
-            drop_item(ts, i, end)
-            found.add(name)
-        elif t.kind == "ident" and not t.gone and t.text == "impl" and names:
-            body = body_of(ts, i)
-            if body is not None and names & {it.text for it in ts[i:body]}:
-                drop_item(ts, i, closing(ts, body))
-    return text_of(ts), found
-
-
 def without_labels(ts):
     """Deletes the labels of loops that no jump names."""
     named = {t.text for i, t in enumerate(ts) if t.kind == "lifetime" and ts[step(ts, i, -1)].text in ("break", "continue")}
@@ -178,29 +165,50 @@ def is_empty(text):
     return not re.search(r"\b(fn|struct|enum|trait|impl|const|static|mod|type|macro_rules)\b", re.sub(r"//[^\n]*", "", text))
 
 
+def contract_of(lines, at):
+    """The comments between the signature of the function at a line and its body, where they have clauses."""
+    found = []
+    for line in lines[at:]:
+        text = line.strip()
+        if text.startswith("//"):
+            found.append(text[3:])
+        elif found or text in ("{", ";") or text.endswith((" {", "}", ";")):
+            break
+    return found if any(it.startswith(CLAUSES) for it in found) else []
+
+
 def with_contracts(text):
-    """A file whose documented functions have their contracts in the documentation."""
-    lines, made = text.split("\n"), []
+    """A file whose public functions, and those of its public traits, have their contracts in the documentation."""
+    lines, made, is_trait = text.split("\n"), [], False
     for at, line in enumerate(lines):
-        made.append(line)
-        if not CLAUSE.match(line) or CLAUSE.match(lines[at - 1]) or lines[at - 1].strip().startswith("//"):
-            continue
-        end = at
-        while lines[end].strip().startswith("//"):
-            end += 1
-        first = next((k for k in range(len(made) - 2, -1, -1) if re.match(r"\s*pub (const )?fn ", made[k])), None)
-        if first is None or any(it.strip() in ("{", "}") or it.strip().endswith(";") for it in made[first:-1]):
-            continue
-        top = first
+        is_trait = line.startswith("pub trait ") or is_trait and line != "}"
+        is_public = FUNCTION.match(line) or is_trait and OF_TRAIT.match(line)
+        top = len(made)
         while top > 0 and made[top - 1].strip().startswith("#["):
             top -= 1
-        if top == 0 or not made[top - 1].strip().startswith("///"):
-            continue
-        margin = re.match(r"\s*", made[first]).group(0)
-        clauses = [it.strip()[3:] for it in lines[at:end]]
-        shown = ["", " # Contract", "", " ```text", *[f" {it}" for it in clauses], " ```"]
-        made[top:top] = [f"{margin}///{it}" for it in shown]
+        if is_public and top > 0 and made[top - 1].strip().startswith("///") and (clauses := contract_of(lines, at)):
+            margin = re.match(r"\s*", line).group(0)
+            shown = ["", " # Contract", "", " ```text", *[f" {it}" for it in clauses], " ```"]
+            made[top:top] = [f"{margin}///{it}" for it in shown]
+        made.append(line)
     return "\n".join(made)
+
+
+def with_links(text, crate, crates, gone):
+    """A file whose documentation links to what is in the one crate, and not to what is gone."""
+    def linked(match):
+        label, path = match.group(1), (match.group(2) or match.group(1)).split("::")
+        if gone & set(path):
+            return f"`{label}`"
+        if path[0] == "crate":
+            path[:1] = ["crate", crate]
+        elif path[0] in crates:
+            path[:0] = ["crate"]
+        elif not match.group(2):
+            return match.group(0)
+        return f"[`{label}`]({'::'.join(path)})"
+
+    return re.sub(r"^[ \t]*//[/!].*$", lambda line: LINK.sub(linked, line.group(0)), text, flags=re.MULTILINE)
 
 
 def read_sources(folder):
@@ -214,23 +222,19 @@ def read_sources(folder):
     return files
 
 
-def module_of(files, crate, names, dead=()):
-    """The files of a crate as those of a module: its root is `mod.rs`. Returns them, and the names of its laws. What is dead there is left out."""
+def module_of(files, crate, names):
+    """The files of a crate as those of a module: its root is `mod.rs`. Returns them, and the names of its laws."""
     modules = {os.path.basename(path)[:-3] for path in files}
-    found, made, unseen = set(), {}, set(dead)
+    found, made = set(), {}
     for path, text in files.items():
-        more, text = laws(text)
-        text, seen = without_dead(text, dead)
+        more, made[path] = laws(text)
         found |= more
-        unseen -= seen
-        made[path] = text
-    if unseen:
-        raise KeyError(f"{crate} has no {', '.join(sorted(unseen))}, which is to be left out as dead")
     gone = {path[:-3] for path, text in made.items() if path != "lib.rs" and is_empty(text)}
     made = {path: text for path, text in made.items() if path[:-3] not in gone}
     for path, text in made.items():
         text = re.sub(r"^(?:pub )?mod (\w+);\n", lambda match: "" if match.group(1) in gone else match.group(0), text, flags=re.MULTILINE)
         text = names.rewrite(ROOT_LINES.sub("", text), crate, modules)
+        text = with_links(text, crate, names.crates, found | gone)
         text = re.sub(r"^([ \t]*///[^\n]*\n)\s*\n(?=[ \t]*(?:#\[|pub |fn ))", r"\1", with_contracts(text), flags=re.MULTILINE)
         made[path] = re.sub(r"\n{3,}", "\n\n", text).strip() + "\n"
     made["mod.rs"] = made.pop("lib.rs")

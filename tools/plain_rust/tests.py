@@ -14,6 +14,7 @@ sys.path.insert(0, HERE)
 sys.dont_write_bytecode = True
 import border  # noqa: E402
 import lexer  # noqa: E402
+import one_crate  # noqa: E402
 import rewrites  # noqa: E402
 
 loader = importlib.machinery.SourceFileLoader("export", os.path.join(HERE, "export"))
@@ -322,6 +323,22 @@ class BorderOfTheNodes(unittest.TestCase):
     def test_what_is_not_checked_is_that_memory_and_store_agree(self):
         self.assertEqual({it.split(": ")[2] for it in self.unchecked}, {"agrees"})
         self.assertIn(f"{len(self.unchecked)} calls require it", read(PAGE))
+
+
+class OneCrate(unittest.TestCase):
+    def test_a_contract_stands_in_the_documentation(self):
+        text = "/// Does it.\n#[inline]\npub fn it(\n    a: u8,\n) -> u8\n    // A remark.\n    // ensures same { result ≡ a }\n{\n    a\n}\n"
+        shown = "/// Does it.\n///\n/// # Contract\n///\n/// ```text\n/// A remark.\n/// ensures same { result ≡ a }\n/// ```\n#[inline]\n"
+        self.assertEqual(one_crate.with_contracts(text), shown + text.split("#[inline]\n")[1])
+        call = "    /// Does it.\n    fn it(&self)\n        // ensures { result ≡ a }\n    ;\n"
+        self.assertIn("/// # Contract", one_crate.with_contracts(f"pub trait It {{\n{call}}}\n"))
+        for other in (f"impl It {{\n{call}}}\n", "/// Does it.\npub fn it() {}\n// ensures\n", text.replace("///", "//")):
+            self.assertEqual(one_crate.with_contracts(other), other)
+
+    def test_links_lead_into_the_one_crate(self):
+        text = "/// [`It`], [`other::It`], [`it`](crate::it), [`a_law`], [`laws::b`], [`c`](It::c).\npub fn it() { x[`a`] }\n"
+        wanted = "/// [`It`], [`other::It`](crate::other::It), [`it`](crate::own::it), `a_law`, `laws::b`, [`c`](It::c).\npub fn it() { x[`a`] }\n"
+        self.assertEqual(one_crate.with_links(text, "own", {"own", "other"}, {"a_law", "laws"}), wanted)
 
 
 class Exports(unittest.TestCase):
