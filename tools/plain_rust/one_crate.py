@@ -198,7 +198,8 @@ def with_links(text, crate, crates, gone):
     """A file whose documentation links to what is in the one crate, and not to what is gone."""
     def linked(match):
         label, path = match.group(1), (match.group(2) or match.group(1)).split("::")
-        if gone & set(path):
+        # Modules of a crate are private: what is named through one is not documented.
+        if gone & set(path) or path[0] == "crate" and len(path) > 2 and path[1].islower():
             return f"`{label}`"
         if path[0] == "crate":
             path[:1] = ["crate", crate]
