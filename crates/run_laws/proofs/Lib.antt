@@ -12,5 +12,6 @@ mod FateSteps
 mod FateUnits
 mod SealedCame
 mod Datagrams
+mod Forgeries
 mod OctetPlaces
 mod FatePlaces

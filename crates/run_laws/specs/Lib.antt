@@ -5,3 +5,4 @@ pub mod OctetPlaces
 pub mod FatePlaces
 pub mod RunLaws
 pub mod DatagramFates
+pub mod Forgeries

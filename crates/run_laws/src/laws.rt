@@ -4,14 +4,15 @@ ghost use Rattle.run_laws.specs.BesideSizes.{TablesBesideKeepTheirSizes};
 ghost use Rattle.run_laws.specs.DatagramFates.{EverySendHasAFate};
 ghost use Rattle.run_laws.specs.Datagrams.{EveryDatagramIsMoved};
 ghost use Rattle.run_laws.specs.FatePlaces.{EveryFateIsAtOnePlace};
+ghost use Rattle.run_laws.specs.Forgeries.{EveryFirstForgeryIsInTheGame};
 ghost use Rattle.run_laws.specs.OctetPlaces.{EveryOctetIsAtOnePlace};
 ghost use Rattle.run_laws.specs.RunLaws.{EveryRunIsLawful};
 
 use line_laws::{
     every_count_is_right, every_datagram_was_sent, every_flight_falls, every_flight_is_octets,
-    every_forgery_is_reported, every_history_is_kept, every_log_is_kept, every_nonce_differs,
-    every_run_holds, every_run_holds_throughout, every_run_stays_in_open_custody, every_tag_rises,
-    network_keeps_ranges, the_start_holds,
+    every_flight_is_spelled, every_forgery_is_reported, every_history_is_kept, every_log_is_kept,
+    every_nonce_differs, every_run_holds, every_run_holds_throughout,
+    every_run_stays_in_open_custody, every_tag_rises, network_keeps_ranges, the_start_holds,
 };
 use line_progress::{
     datagrams_came, deliveries_have_fates, events_keep_bodies, events_keep_flights,
@@ -90,6 +91,19 @@ pub fn every_fate_is_at_one_place()
 {
     every_octet_is_at_one_place();
     every_datagram_was_sent();
+}
+
+/// In every run of the network, over restarts, failed writes and changes of keys: where the first event that is forged is so by a frame, this frame is a
+/// forgery in the game by which authenticated encryption is judged. What nodes have sealed until then is what the game answers, with no nonce twice under one
+/// key; the frame opens under its key, and is none of it. Where it is forged otherwise, a pair tag was right that no node made.
+pub fn every_first_forgery_is_in_the_game()
+    ensures { EveryFirstForgeryIsInTheGame }
+{
+    every_flight_is_octets();
+    every_flight_is_spelled();
+    every_forgery_is_reported();
+    every_nonce_differs();
+    network_keeps_ranges();
 }
 
 /// In every run of the network these laws hold.

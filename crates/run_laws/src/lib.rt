@@ -5,14 +5,15 @@
 //! - What an event does to datagrams: what it hands up, sends, and leaves of what waits, is gathered or flies ([`every_datagram_is_moved`]).
 //! - No octet of a datagram is at two places at once ([`every_octet_is_at_one_place`]).
 //! - What became of each octet of each datagram that was sent is one of a closed list of fates ([`every_send_has_a_fate`]).
+//! - The first frame that is forged is a forgery in the game of authenticated encryption ([`every_first_forgery_is_in_the_game`]).
 //!
-//! [`every_run_is_lawful`] has them in one record, which `line_replay` says of its run.
+//! [`every_run_is_lawful`] has them, but for the last, in one record, which `line_replay` says of its run.
 #![tactic(auto)]
 
 mod laws;
 
 pub use laws::{
     every_choice_is_right, every_datagram_is_moved, every_fate_is_at_one_place,
-    every_octet_is_at_one_place, every_run_is_lawful, every_send_has_a_fate,
-    tables_beside_keep_their_sizes,
+    every_first_forgery_is_in_the_game, every_octet_is_at_one_place, every_run_is_lawful,
+    every_send_has_a_fate, tables_beside_keep_their_sizes,
 };
