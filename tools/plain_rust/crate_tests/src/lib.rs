@@ -7,6 +7,7 @@
 extern crate rattle_std as std;
 
 mod air;
+mod ciphers;
 mod descriptions;
 mod flash;
 mod formats;

@@ -1,17 +1,12 @@
 //! The reader of units, over the payload of a full frame: 381 octets, which are a mesh header and a whole datagram of 375.
-ghost use Rattle.std.specs.Prelude.{◌≤◌, length};
-
+use crate::Done;
 use mesh_header::{Unit, read_unit};
+use rattle_std::process::HostRuntime;
 
 // A call of its own, so that the whole unit has to be made.
 #[inline(never)]
-fn read(payload: &[u8]) -> Option<Unit<'_>>
-    requires { length payload.now ≤ 400 }
-{
-    match read_unit(payload) {
-        Ok(unit) => Some(unit),
-        Err(_) => None,
-    }
+fn read(payload: &[u8]) -> Option<Unit<'_>> {
+    read_unit(payload).ok()
 }
 
 /// The octets of `count` datagrams, each read out of a unit of its own that differs from the one before.
@@ -21,7 +16,7 @@ fn read_units(count: u32) -> u64 {
     let mut sum: u64 = 0;
     for _ in 0..count {
         if let Some(Unit::Whole { octets, .. }) = read(&payload) {
-            sum = sum.wrapping_add(octets.octets().len() as u64);
+            sum += octets.octets().len() as u64;
         }
         payload[6] = (sum % 256) as u8;
     }
@@ -29,7 +24,7 @@ fn read_units(count: u32) -> u64 {
 }
 
 /// Reads `count` units, and prints how many octets their datagrams had together.
-pub fn run(rt: &HostRuntime, count: u32) -> anyhow::Result<()> {
-    println!(rt; "read {}", read_units(count))?;
+pub fn run(_: &HostRuntime, count: u32) -> Done {
+    println!("read {}", read_units(count));
     Ok(())
 }

@@ -1,5 +1,7 @@
 //! Vectors from the standards themselves.
 
+use std::dialect::*;
+
 use aes_modes::laws::{ccm_seal_and_open, eax_seal_and_open};
 use aes_modes::{Aes, BadTag, SlicedAes, ccm_open, ccm_seal, cmac, eax_open, eax_seal};
 use hex::FromHex;
@@ -8,7 +10,6 @@ use std::process::Abort;
 use std::test::Fail;
 
 /// A sealed text as its standard prints it, in hexadecimal.
-#[derive(Drop)]
 struct Sealed {
     key: &'static str,
     nonce: &'static str,
@@ -28,7 +29,8 @@ fn cipher(key: &str) -> Result<Aes, Fail> {
 
 /// FIPS 197, appendices B and C.1, by both forms of the cipher.
 #[test]
-fn blocks_of_fips_197(rt: HostRuntime) -> Result<(), Fail> {
+fn blocks_of_fips_197() {
+    std::test::check(|rt: HostRuntime| -> Result<(), Fail> {
     for (key, block, encrypted) in [
         (
             "2b7e151628aed2a6abf7158809cf4f3c",
@@ -49,11 +51,13 @@ fn blocks_of_fips_197(rt: HostRuntime) -> Result<(), Fail> {
         assert_eq!(rt; sliced, wanted, "sliced, at {block}");
     }
     Ok(())
+})
 }
 
 /// NIST SP 800-38A, F.1.1: four blocks under one key, two at once, by both forms of the cipher.
 #[test]
-fn pairs_of_sp_800_38a(rt: HostRuntime) -> Result<(), Fail> {
+fn pairs_of_sp_800_38a() {
+    std::test::check(|rt: HostRuntime| -> Result<(), Fail> {
     let key = key_of("2b7e151628aed2a6abf7158809cf4f3c")?;
     let aes = Aes::new(&key);
     let sliced = SlicedAes::new(&key);
@@ -80,11 +84,13 @@ fn pairs_of_sp_800_38a(rt: HostRuntime) -> Result<(), Fail> {
         assert_eq!(rt; [c, d], wanted, "sliced, at {x}");
     }
     Ok(())
+})
 }
 
 /// RFC 4493, section 4, examples 1 to 4.
 #[test]
-fn tags_of_rfc_4493(rt: HostRuntime) -> Result<(), Fail> {
+fn tags_of_rfc_4493() {
+    std::test::check(|rt: HostRuntime| -> Result<(), Fail> {
     let aes = cipher("2b7e151628aed2a6abf7158809cf4f3c")?;
     let text = <[u8; 64]>::from_hex(
         "6bc1bee22e409f96e93d7e117393172aae2d8a571e03ac9c9eb76fac45af8e51\
@@ -96,7 +102,6 @@ fn tags_of_rfc_4493(rt: HostRuntime) -> Result<(), Fail> {
         (40, "dfa66747de9ae63030ca32611497c827"),
         (64, "51f0bebf7e3b9d92fc49741779363cfe"),
     ] {
-        assert!(rt; length <= 64);
         assert_eq!(rt;
             cmac(&aes, &text[..length]),
             <[u8; 16]>::from_hex(tag)?,
@@ -104,11 +109,13 @@ fn tags_of_rfc_4493(rt: HostRuntime) -> Result<(), Fail> {
         );
     }
     Ok(())
+})
 }
 
 /// The ten vectors of the EAX paper, each with every bit of its tag turned.
 #[test]
-fn texts_of_the_eax_paper(rt: HostRuntime) -> Result<(), Fail> {
+fn texts_of_the_eax_paper() {
+    std::test::check(|rt: HostRuntime| -> Result<(), Fail> {
     let vectors = [
         Sealed {
             key: "233952dee4d5ed5f9b9c6d6ff80ff478",
@@ -195,6 +202,7 @@ fn texts_of_the_eax_paper(rt: HostRuntime) -> Result<(), Fail> {
         eax_vector(&rt, vector)?;
     }
     Ok(())
+})
 }
 
 fn eax_vector(rt: &(impl Abort + AllocGlobal), vector: &Sealed) -> Result<(), Fail> {
@@ -232,7 +240,8 @@ fn eax_vector(rt: &(impl Abort + AllocGlobal), vector: &Sealed) -> Result<(), Fa
 
 /// RFC 3610, section 8: the packet vectors with tags of 8 octets, each with every bit of its tag turned.
 #[test]
-fn packets_of_rfc_3610(rt: HostRuntime) -> Result<(), Fail> {
+fn packets_of_rfc_3610() {
+    std::test::check(|rt: HostRuntime| -> Result<(), Fail> {
     let vectors = [
         // packet vector 1
         Sealed {
@@ -347,6 +356,7 @@ fn packets_of_rfc_3610(rt: HostRuntime) -> Result<(), Fail> {
         ccm_vector(&rt, vector)?;
     }
     Ok(())
+})
 }
 
 fn ccm_vector(rt: &(impl Abort + AllocGlobal), vector: &Sealed) -> Result<(), Fail> {
@@ -356,7 +366,6 @@ fn ccm_vector(rt: &(impl Abort + AllocGlobal), vector: &Sealed) -> Result<(), Fa
     let plain = hex::decode(rt.alloc(), vector.text)?;
     let sealed = hex::decode(rt.alloc(), vector.sealed)?;
     let mut text = hex::decode(rt.alloc(), vector.text)?;
-    assert!(rt; header.len() < 100 && text.len() < 100);
     let mut tag = [0; 8];
     ccm_seal(&aes, &nonce, &header, &mut text, &mut tag);
     assert_eq!(rt; text, sealed, "text of {}", vector.tag);
@@ -365,7 +374,6 @@ fn ccm_vector(rt: &(impl Abort + AllocGlobal), vector: &Sealed) -> Result<(), Fa
         for bit in 0..8u32 {
             let mut wrong = tag;
             wrong[place] ^= 1 << bit;
-            assert!(rt; text.len() < 100);
             assert_eq!(rt;
                 ccm_open(&aes, &nonce, &header, &mut text, &wrong),
                 Err(BadTag)
@@ -373,10 +381,8 @@ fn ccm_vector(rt: &(impl Abort + AllocGlobal), vector: &Sealed) -> Result<(), Fa
             assert_eq!(rt; text, sealed);
         }
     }
-    assert!(rt; text.len() < 100);
     assert_eq!(rt; ccm_open(&aes, &nonce, &header, &mut text, &tag), Ok(()));
     assert_eq!(rt; text, plain);
-    assert!(rt; text.len() < 100);
     let mut again = [0; 8];
     assert_eq!(rt;
         ccm_seal_and_open(&aes, &nonce, &header, &mut text, &mut again),
