@@ -132,6 +132,10 @@ flash_store_code =
       used_up = p.1.1.1.1.1.1;
     }) (λ _. refl)
 
+-- what a keeper is to the node over it: what an opening may find is pending
+abbrev pub kept_store : FlashStore → Store
+kept_store keeper = record keeper.store { pending = Some keeper.left }
+
 -- A cause for which a put or a purge fails: a program or an erase failed, or there is no room.
 abbrev pub HasCause : FlashStore → Type 0
 HasCause keeper = (keeper.has_failed ≡ true) ⊎ (keeper.full ≡ true)

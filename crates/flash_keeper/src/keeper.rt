@@ -5,7 +5,7 @@ ghost use Rattle.std.specs.FinMap as map;
 ghost use Rattle.plc_base.specs.Keeper.{IsSlot, Puts};
 ghost use Rattle.flash_keeper.specs.Log.{Choice, IsLeft, room};
 ghost use Rattle.flash_keeper.specs.Banks.{AreLeft, ArePurged, IsStore, IsCause, IsOpened, IsLeftBy, IsLeftOpen, IsDecayed, MayOpen, FlashStore};
-ghost use Rattle.flash_keeper.specs.Banks.{HasCause};
+ghost use Rattle.flash_keeper.specs.Banks.{HasCause, kept_store};
 ghost use Rattle.flash_keeper.specs.Flash.{IsBlank};
 ghost use Rattle.flash_keeper.specs.Wear.{one_if, worn_of, worn_with, AreProgrammed};
 
@@ -41,7 +41,8 @@ pub enum OpenFault {
 /// A contract sees what it holds, what an opening of its banks may find in place of that, whether nothing but its records is left in them, and the two
 /// causes for which a put may fail: a program or an erase of one of its banks has failed, or a bank has no cell more than there are records. Then how
 /// much oftener a word of its banks was programmed since the erase of its bank than in a life in which nothing fails (`worn`), and whether no cell of its
-/// log is left (`used_up`). After `Failed` it holds the records from before, and each further put fails, until it is reopened.
+/// log is left (`used_up`). After `Failed` it holds the records from before, and each further put fails, until it is reopened. To a node over it what an
+/// opening may find is pending (`kept_store`).
 #[derive(Drop)]
 pub struct FlashKeeper<B: FlashBank + Drop> {
     pair: Pair<B>,
@@ -60,7 +61,7 @@ impl<B: FlashBank + Drop> Model for FlashKeeper<B> {
     ghost coded = { flash_store_code };
 
     ghost view = { λ k. record {
-      store = record { records = upto (B.bank k.pair.live).words k.pair.next; faults = k.faults; known_cut = None; listed = None };
+      store = record { records = upto (B.bank k.pair.live).words k.pair.next; pending = None; faults = k.faults; known_cut = None; listed = None };
       left = upto_fence (B.bank k.pair.live).words k.pair.next;
       purged = are_purged (B.bank k.pair.live) (B.bank k.pair.spare) k.pair.next;
       has_failed = B.has_failed k.pair.live || B.has_failed k.pair.spare;
@@ -82,7 +83,7 @@ impl<B: FlashBank + Drop> FlashKeeper<B> {
     /// be formatted again. A bank with hardly more cells than records would be erased at each put, and worn out in months.
     #[tactic(auto, using(crate::proofs::KeeperLemmas::kept_of_ready, crate::proofs::KeeperLemmas::kept_of_failed, crate::proofs::KeeperLemmas::nothing_else))]
     pub fn format(first: B, second: B, slots: usize) -> Result<FlashKeeper<B>, (OpenFault, B, B)>
-        ensures ok { IfOk result (λ keeper. keeper.store ≡ record { records = map.empty; faults = 0; known_cut = None; listed = None }) }
+        ensures ok { IfOk result (λ keeper. keeper.store ≡ record { records = map.empty; pending = None; faults = 0; known_cut = None; listed = None }) }
         ensures left { IfOk result (λ keeper. keeper.left ≡ map.empty) }
         ensures purged { IfOk result (λ keeper. keeper.purged ≡ true) }
         ensures worn { IfOk result (λ keeper. keeper.worn ≡ 0) }
@@ -326,7 +327,7 @@ impl<B: FlashBank + Drop> FlashKeeper<B> {
 }
 
 impl<B: FlashBank + Drop> Keeper for FlashKeeper<B> {
-    ghost store = { λ k. k.store };
+    ghost store = { kept_store };
 
     #[tactic(auto, using(crate::proofs::KeeperLemmas::kept_within))]
     fn get(&self, slot: u32) -> Option<Record> {
@@ -339,7 +340,7 @@ impl<B: FlashBank + Drop> Keeper for FlashKeeper<B> {
     /// further put fails. Such a put may have programmed a word once oftener than in a life in which nothing fails, and no other put does (`worn`, `cut`).
     fn put(&mut self, slot: u32, octets: &Record) -> Result<(), Failed>
         requires { IsSlot slot }
-        ensures puts { Puts self.old.store slot octets.now (is_ok result) self.new.store }
+        ensures puts { Puts (kept_store self.old) slot octets.now (is_ok result) (kept_store self.new) }
         ensures old { OnErr result (self.new.store.records ≡ self.old.store.records) }
         ensures left { IsLeftBy self.old slot octets.now (is_ok result) self.new }
         ensures worn { OnOk result (self.new.worn ≤ self.old.worn) }

@@ -52,7 +52,7 @@ impl Model for OutboxKeeper {
 
     ghost coded = { store_code };
 
-    ghost view = { λ k. record { records = k.held.records; faults = k.faults; known_cut = None; listed = Some (map write_of k.puts.items) } };
+    ghost view = { λ k. record { records = k.held.records; pending = None; faults = k.faults; known_cut = None; listed = Some (map write_of k.puts.items) } };
 
     // No put of the keeper in memory fails.
     ghost invariant = { λ k. k.held.known_cut ≡ Some None };
@@ -61,7 +61,7 @@ impl Model for OutboxKeeper {
 impl OutboxKeeper {
     /// A keeper with no record and no put. It fails only where there is no memory.
     pub fn new(alloc: Global) -> Result<OutboxKeeper, AllocError>
-        ensures { IfOk result (λ k. k ≡ record { records = map.empty; faults = 0; known_cut = None; listed = Some [] }) }
+        ensures { IfOk result (λ k. k ≡ record { records = map.empty; pending = None; faults = 0; known_cut = None; listed = Some [] }) }
     {
         Ok(OutboxKeeper {
             held: MemKeeper::new(alloc)?,

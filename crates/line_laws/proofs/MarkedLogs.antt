@@ -128,7 +128,7 @@ module _ (ups : List BroadcastUp) (n : ℕ) where
   }
 
 store : Records → Store
-store r = record { records = r; faults = 0; known_cut = None; listed = None }
+store r = record { records = r; pending = None; faults = 0; known_cut = None; listed = None }
 
 -- # Writes
 
@@ -147,6 +147,7 @@ module _ (ups : List BroadcastUp) (n : ℕ) where
   put_true r w = record {
     stored = refl;
     old_or_new = inr refl;
+    pending = refl;
     faults = zero-le;
     rose = tt;
     known_cut = refl;

@@ -4,6 +4,7 @@ mod Inside
 mod QuietReports
 mod Replayed
 mod ReportLines
+mod ReportedOctets
 mod DriverRuns
 mod EventTurns
 pub mod Flies

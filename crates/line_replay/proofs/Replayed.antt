@@ -10,12 +10,14 @@ use Rattle.script_runs.specs.Runs.{Ran}
 use Rattle.line_replay.specs.Tool.{Replays}
 use Rattle.line_replay.proofs.DriverRuns.{entries_run, last_is, report_by_entries, names, breaks_as}
 use Rattle.line_replay.proofs.QuietReports.{report_quieted}
+use Rattle.line_replay.proofs.ReportedOctets.{reported_as}
 
 pub replays_of : (quiet : Bool) {source0 source1 : SourceState} {sink0 sink1 : SinkState} {s : Status}
     → Ran is_forged status.Forged (outcome quiet) source0 source1 sink0 sink1 s → ((octets : List ℕ) (e : Bool) → IsRight (entries octets e))
     → ((octets : List ℕ) (e : Bool) → IsLawful (entries octets e)) → Replays quiet source0 source1 sink0 sink1 s
 replays_of quiet ran right lawful = record {
   ran = ran;
+  reported = reported_as ran;
   by_entries = report_by_entries quiet ran.drives.b;
   quieted = λ e. report_quieted ran.drives.b e;
   breaks = breaks_as ran;

@@ -5,7 +5,7 @@ use Rattle.std.specs.Prelude.{if◌then◌else◌}
 use Rattle.std.specs.declared.option.Option.{Option}
 use Rattle.std.specs.Option.{option_map}
 use Rattle.std.specs.declared.alloc.Global.{Global}
-use Rattle.plc_base.specs.Streams.{SourceState, SinkState}
+use Rattle.plc_base.specs.Streams.{SourceState, SinkState, IsPrefixOf}
 use Rattle.script_lines.specs.declared.window.TheConstants.{WINDOW}
 use Rattle.script_lines.specs.Outcomes.{BreaksOff, MayBreakOff}
 use Rattle.node_rules.specs.Ciphers.{network}
@@ -77,10 +77,30 @@ BreaksOffBy status.ReadFault whole b w ended = Unit {0}
 BreaksOffBy status.Usage whole b w ended = Unit {0}
 BreaksOffBy status.LimitReached whole b w ended = ⊥
 
+-- A sink has taken a prefix of a text.
+pub record HasTakenFront (text : List ℕ) (sink : SinkState) : Type 0 where
+  pub w : List ℕ
+  pub taken : sink.taken ≡ Some w
+  pub front : IsPrefixOf w text
+
+-- What a sink has taken is the report of what a source has given, by the status: of all octets once the input has ended, of the lines up to a bad one, of the
+-- whole lines before a read that failed; or a prefix of it where it could not be written whole.
+abbrev pub IsReportOf : (List ℕ → Bool → List ℕ) → Status → SourceState → SinkState → Type 0
+IsReportOf whole status.Fine source sink = sink.taken ≡ Some (whole source.given true)
+IsReportOf whole status.Forged source sink = sink.taken ≡ Some (whole source.given true)
+IsReportOf whole status.BadScript source sink = sink.taken ≡ Some (whole source.given source.ended)
+IsReportOf whole status.ReadFault source sink = sink.taken ≡ Some (whole source.given false)
+IsReportOf whole status.WriteFault source sink = HasTakenFront (whole source.given source.ended) sink
+IsReportOf whole status.Memory source sink = HasTakenFront (whole source.given source.ended) sink
+IsReportOf whole status.Usage source sink = ⊥
+IsReportOf whole status.LimitReached source sink = ⊥
+
 -- What a replay did: the same, and what holds of its run.
 pub record Replays (quiet : Bool) (source0 source1 : SourceState) (sink0 sink1 : SinkState)
     (result : Status) : Type 0 where
   pub ran : Ran is_forged status.Forged (outcome quiet) source0 source1 sink0 sink1 result
+  -- where nothing had gone through the streams before, what the sink's writes have taken is the report of what the source's reads have answered
+  pub reported : source0.given ≡ [] → sink0.taken ≡ Some [] → IsReportOf (report quiet) result source1 sink1
   -- the report is the lines of the run's entries, and then the last line
   pub by_entries : (e : Bool)
       → report quiet ran.drives.b e ≡ entries_text quiet (entries ran.drives.b e) ++ last_text ran.drives.b e

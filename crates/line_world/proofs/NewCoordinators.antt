@@ -53,7 +53,7 @@ runs_sound y running h reported =
 
 -- a keeper without a record, which has no loss of power to come
 abbrev blank_store : Store
-blank_store = record { records = empty; faults = 0; known_cut = Some None; listed = None }
+blank_store = record { records = empty; pending = None; faults = 0; known_cut = Some None; listed = None }
 
 -- what it gives
 reads_blank : (m : Memory) → memory_of Coordinator empty ≡ Ok m → remembering blank_station [] ≡ m

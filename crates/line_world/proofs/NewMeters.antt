@@ -25,7 +25,7 @@ use Rattle.line_world.proofs.MeterActs.{sound_meter}
 
 -- what an empty keeper holds
 abbrev pub empty_store : Store
-empty_store = record { records = empty; faults = 0; known_cut = Some None; listed = None }
+empty_store = record { records = empty; pending = None; faults = 0; known_cut = Some None; listed = None }
 
 -- What is said of a meter that was opened over a keeper.
 pub record Opened (keeper : Store) (own : Eui) (key : Key) (y : MeterState) : Type 0 where

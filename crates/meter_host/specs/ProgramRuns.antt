@@ -55,7 +55,7 @@ pub data Phase : Type 0 where
 
 -- no record yet
 abbrev pub no_records : Store
-no_records = record { records = map.empty; faults = 0; known_cut = None; listed = Some [] }
+no_records = record { records = map.empty; pending = None; faults = 0; known_cut = None; listed = Some [] }
 
 -- Two octets are the version of the items.
 pub record IsVersion (octets : List ℕ) : Type 0 where

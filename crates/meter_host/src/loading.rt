@@ -58,7 +58,7 @@ fn follows(keeper: &OutboxKeeper, first: u32, slot: u32) -> bool
 impl Loading {
     /// No record yet. It fails only where there is no memory.
     pub fn new(alloc: Global) -> Result<Loading, AllocError>
-        ensures { IfOk result (λ l. l ≡ record { records = map.empty; faults = 0; known_cut = None; listed = Some [] }) }
+        ensures { IfOk result (λ l. l ≡ record { records = map.empty; pending = None; faults = 0; known_cut = None; listed = Some [] }) }
     {
         Ok(Loading {
             keeper: OutboxKeeper::new(alloc)?,

@@ -1,8 +1,31 @@
--- What reads leave of a source's plan and faults.
-use Rattle.std.proofs.Common.{◌≡◌, ℕ, List, Option, Some, None, IfSome, Result, Ok, Bool, true, false, ◌||◌, IsTrue, refl, sym, ◌∙◌, subst, arith}
+-- What reads give, and leave of a source's plan and faults.
+use Rattle.std.proofs.Common.{◌≡◌, ℕ, List, [], ◌++◌, Option, Some, None, IfSome, Result, Ok, Bool, true, false, ◌||◌, IsTrue, refl, sym, ◌∙◌, ap, subst, arith}
+use Rattle.std.proofs.Common.{append_assoc, append-nil}
 use Rattle.std.proofs.lemmas.Bool.{eq-eqb}
+use Rattle.std.proofs.KnownBytes.{Consumes-nil, Consumes-trans, Consumes-kept}
 use Rattle.std.specs.Io.KnownBytes.{IsAtEnd}
-use Rattle.plc_base.specs.Streams.{SourceState, ReadPlan, FollowsReadPlan, Reads, PlansNoFailedRead, SourceFaults, ReadFaults}
+use Rattle.plc_base.specs.Streams.{Gives, GivesNone, SourceState, ReadPlan, FollowsReadPlan, Reads, PlansNoFailedRead, SourceFaults, ReadFaults}
+
+-- ---- what was given
+
+pub gives_none : (s : SourceState) → Gives s s []
+gives_none s = record { given = sym (append-nil s.given); left = Consumes-nil s.left }
+
+-- some octets after others
+pub gives_both : {first middle last : SourceState} (xs ys : List ℕ) → Gives first middle xs → Gives middle last ys → Gives first last (xs ++ ys)
+gives_both {first} {middle} {last} xs ys g h = record {
+  given = h.given ∙ ap (λ (l : List ℕ). l ++ ys) g.given ∙ append_assoc first.given xs ys;
+  left = Consumes-trans first.left middle.left last.left xs ys g.left h.left;
+}
+
+-- nothing after some octets
+pub gives_kept : {first middle last : SourceState} (xs : List ℕ) → Gives first middle xs → GivesNone middle last → Gives first last xs
+gives_kept {first} {middle} {last} xs g h = record {
+  given = h.given ∙ g.given;
+  left = Consumes-kept first.left middle.left last.left xs g.left h.left;
+}
+
+-- ---- the plan and the faults
 
 pub no_reads : (s : SourceState) → SourceFaults s s
 no_reads s = record { later = omega arith; none = λ plan. (plan, refl) }

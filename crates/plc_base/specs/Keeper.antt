@@ -1,7 +1,7 @@
 -- What a keeper holds, what a put does to it, and what a loss of power makes of a put.
-use Rattle.std.specs.Prelude.{◌≡◌, ◌⊎◌, ℕ, ◌-◌, ◌<◌, ◌≤◌, Bool, true, ◌||◌, nat_lt, if◌then◌else◌, List, [], ◌∷◌, ◌++◌, Option, Some, None, IfSome, refl}
+use Rattle.std.specs.Prelude.{◌≡◌, ◌⊎◌, ℕ, ◌-◌, ◌<◌, ◌≤◌, Bool, true, false, ◌||◌, nat_lt, if◌then◌else◌, List, [], ◌∷◌, ◌++◌, Option, Some, None, IfSome, refl}
 use Rattle.std.specs.Bool.{OnTrue, OnFalse}
-use Rattle.std.specs.Option.{option_map}
+use Rattle.std.specs.Option.{option_map, option_map_or}
 use Rattle.std.specs.Ordering.{nat_cmp}
 use Rattle.std.specs.FinMap.{FinMap, get, insert, code}
 use Rattle.std.specs.Coded.{Coded, code_by, coded×, coded_ℕ, coded_bool, coded_list, coded_option}
@@ -20,6 +20,8 @@ pub record Write : Type 0 where
 -- What a keeper holds.
 pub record Store : Type 0 where
   pub records : Records
+  -- None where the next opening finds these records, and else those that it may find in their place: a put that failed is decided then
+  pub pending : Option Records
   -- how often it has failed, which stays at the highest number of 64 bits
   pub faults : ℕ
   -- None where it is not known, and else the cut that is to come, if there is one
@@ -60,10 +62,21 @@ records_after cut records slot octets = if writes cut then insert records slot o
 abbrev pub listed_after : Bool → Write → List Write → List Write
 listed_after ok write listed = if ok then listed ++ write ∷ [] else listed
 
+-- the records that an opening may find in place of those that are held: the same, where none are pending
+abbrev pub pending_records : Store → Records
+pending_records store = option_map_or (λ records. records) store.pending store.records
+
+-- what an opening may find after a put: the record, where it succeeded; where it failed, what one might have found before it, or that with this record
+abbrev pub PendingAfter : Store → ℕ → List ℕ → Bool → Store → Type 0
+PendingAfter old slot octets true new = pending_records new ≡ insert old.records slot octets
+PendingAfter old slot octets false new =
+    (pending_records new ≡ pending_records old) ⊎ (pending_records new ≡ old.records) ⊎ (pending_records new ≡ insert old.records slot octets)
+
 -- A put of these octets, which succeeds or not.
 pub record Puts (old : Store) (slot : ℕ) (octets : List ℕ) (ok : Bool) (new : Store) : Type 0 where
   pub stored : OnTrue ok (new.records ≡ insert old.records slot octets)
   pub old_or_new : (new.records ≡ old.records) ⊎ (new.records ≡ insert old.records slot octets)
+  pub pending : PendingAfter old slot octets ok new
   pub faults : old.faults ≤ new.faults
   pub rose : OnFalse ok (Rose old.faults new.faults)
   -- where the cut is known, so is all of the outcome
@@ -75,13 +88,16 @@ pub record Puts (old : Store) (slot : ℕ) (octets : List ℕ) (ok : Bool) (new 
 -- a store is kept as the tuple of its fields
 abbrev pub store_code : Coded Store
 store_code =
-    code_by (Records × (ℕ × (Option (Option Cut) × Option (List Write))))
-    (coded× (code coded_ℕ (coded_list coded_ℕ))
-    (coded× coded_ℕ (coded× (coded_option (coded_option cut_code)) (coded_option (coded_list write_code)))))
-    (λ s. (s.records, (s.faults, (s.known_cut, s.listed))))
-    (λ p. record { records = p.0; faults = p.1.0; known_cut = p.1.1.0; listed = p.1.1.1 })
+    code_by (Records × (Option Records × (ℕ × (Option (Option Cut) × Option (List Write)))))
+    (coded× records_code (coded× (coded_option records_code)
+    (coded× coded_ℕ (coded× (coded_option (coded_option cut_code)) (coded_option (coded_list write_code))))))
+    (λ s. (s.records, (s.pending, (s.faults, (s.known_cut, s.listed)))))
+    (λ p. record { records = p.0; pending = p.1.0; faults = p.1.1.0; known_cut = p.1.1.1.0; listed = p.1.1.1.1 })
     (λ _. refl)
   where
+    records_code : Coded Records
+    records_code = code coded_ℕ (coded_list coded_ℕ)
+
     write_code : Coded Write
     write_code = code_by (ℕ × List ℕ) (coded× coded_ℕ (coded_list coded_ℕ)) (λ w. (w.slot, w.octets))
         (λ p. record { slot = p.0; octets = p.1 }) (λ _. refl)

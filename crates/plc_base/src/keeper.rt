@@ -27,7 +27,8 @@ pub struct BadStore {
 ///
 /// The slots are 1 to 6, 0100 to 013F, 0200 to 023F, 0300 to 031F and 1000 to 13E6 (hexadecimal).
 pub trait Keeper {
-    /// The records that it holds, how often it has failed, and, where it is known, the loss of power that is to come.
+    /// The records that it holds and, where a failed put is decided at the next opening, those that one may find in their place; how often it has failed,
+    /// and, where it is known, the loss of power that is to come.
     ghost store: { Self → Store };
 
     /// The record at a slot, None exactly where there is none.
@@ -37,7 +38,8 @@ pub trait Keeper {
 
     /// Writes the record at a slot, and changes no other slot.
     ///
-    /// After `Failed`, which the object has counted, the slot has the record from before or the new one.
+    /// After `Failed`, which the object has counted, the slot has the record from before or the new one. The next opening may find the other one of the two:
+    /// a node is not restarted over such a keeper before it was opened again.
     fn put(&mut self, slot: u32, octets: &Record) -> Result<(), Failed>
         requires { IsSlot slot }
         ensures { Puts (store self.old) slot octets.now (is_ok result) (store self.new) };

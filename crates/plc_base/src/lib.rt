@@ -13,13 +13,16 @@
 //!   ([`TagList`]).
 //! - `octet_at`, `two_at`, `octets_at` and the like read the fields of a format, and [`Fault`] is its first fault with the
 //!   place.
-//! - [`Source`] and [`Sink`] are for programs: octets in, text out, with adapters over memory and over std's streams.
+//! - [`Source`] and [`Sink`] are for programs: octets in, text out, with adapters over memory and over std's streams. A contract sees
+//!   what went through them, by [`PassedOctets`] where they are the system's.
 //!
 //! What its calls promise, by the names of their clauses:
 //!
-//! - A put leaves the record from before or the new one, even where it fails, and changes no other slot (`Puts`). The trait
+//! - A put leaves the record from before or the new one, even where it fails, and changes no other slot (`Puts`); which of the two, the next
+//!   opening may decide (`pending`). The trait
 //!   asks this of each keeper, and all that the crates above promise of a store rests on it.
-//! - A read or a write fails only where the object counted a fault (`read`, `written`).
+//! - A read or a write fails only where the object counted a fault, and what a source has given is what its reads answered, one after
+//!   another (`read`, `written`).
 //! - What is true of tags, of sorted numbers and of octets in fixed width is a law (`laws`).
 //!
 //! Memory is taken by `MemKeeper::new` and `MemSink::new` alone, and there is no `unsafe`. A buffer that is full is no fault at
@@ -45,6 +48,7 @@ mod octet_ref;
 mod octets;
 mod out_frame;
 mod out_of_range;
+mod passed_octets;
 mod standard;
 mod streams;
 mod tags;
@@ -69,6 +73,7 @@ pub use octet_ref::OctetRef;
 pub use octets::{DatagramBuf, EapBuf, FrameBuf, Octets, Record};
 pub use out_frame::{Out, OutFrame, OutFrames};
 pub use out_of_range::OutOfRange;
+pub use passed_octets::PassedOctets;
 pub use standard::{StdSink, StdSource};
 pub use streams::{Failed, Sink, Source, write_all};
 pub use tags::{PairTag, PairTags, TagList, TagOctets, TagText};

@@ -29,7 +29,7 @@ impl Model for MemKeeper {
 
     ghost coded = { store_code };
 
-    ghost view = { λ k. record { records = records_in k.cells.items; faults = k.faults; known_cut = Some k.cut; listed = None } };
+    ghost view = { λ k. record { records = records_in k.cells.items; pending = None; faults = k.faults; known_cut = Some k.cut; listed = None } };
 
     ghost invariant = { λ k. (vec_len k.cells ≤ 1165) × (1165 ≤ vec_capacity k.cells) };
 }
@@ -72,7 +72,7 @@ fn reach(cells: &mut Vec<Option<Record>>, place: usize)
 impl MemKeeper {
     /// A keeper with no record and no loss of power to come. It fails only for lack of memory.
     pub fn new(alloc: Global) -> Result<MemKeeper, AllocError>
-        ensures { IfOk result (λ keeper. keeper ≡ record { records = map.empty; faults = 0; known_cut = Some None; listed = None }) }
+        ensures { IfOk result (λ keeper. keeper ≡ record { records = map.empty; pending = None; faults = 0; known_cut = Some None; listed = None }) }
     {
         Ok(MemKeeper {
             cells: Vec::with_capacity(alloc, SLOTS)?,

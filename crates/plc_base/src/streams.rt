@@ -12,7 +12,9 @@ pub struct Failed;
 
 /// Where octets come from.
 pub trait Source {
-    /// The octets that are left, whether it has ended, how often it has failed, and, where it is known, how it answers.
+    /// The octets that its reads have answered so far and, where they are known, those that are left; whether it has ended, how
+    /// often it has failed, and, where it is known, how it answers. A source whose octets are not in memory keeps them as
+    /// [`PassedOctets`](crate::PassedOctets).
     ghost state: { Self → SourceState };
 
     /// Moves the first octets to the front of `buf` and answers how many. An answer of 0 is the end of input.
@@ -26,7 +28,8 @@ pub trait Source {
 
 /// Where text goes.
 pub trait Sink {
-    /// The octets that were taken, how often it has failed, and, where it is known, how it answers.
+    /// The octets that its writes have taken so far, where it keeps them, how often it has failed, and, where it is known, how it
+    /// answers.
     ghost state: { Self → SinkState };
 
     /// Takes the first octets of `piece`, at least one, and answers how many.

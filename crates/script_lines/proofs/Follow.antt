@@ -3,13 +3,13 @@ use Rattle.std.proofs.Common.{◌≡◌, inl, inr, ℕ, ◌<◌, ◌≤◌, Bool
 use Rattle.std.proofs.Common.{subst}
 use Rattle.std.proofs.Common.{append_assoc, length-append, arith, ◌+◌}
 use Rattle.std.proofs.lemmas.List.{append-nil}
-use Rattle.std.proofs.KnownBytes.{Consumes-nil, Consumes-trans, Appends-nil, Appends-trans}
+use Rattle.std.proofs.KnownBytes.{Appends-nil, Appends-trans}
 use Rattle.std.specs.declared.option.Option.{Option}
-use Rattle.std.specs.Io.KnownBytes.{Consumes, Appends}
+use Rattle.std.specs.Io.KnownBytes.{Appends}
 use Rattle.plc_base.specs.declared.streams.Failed.{Failed}
 use Rattle.plc_base.specs.Causes.{Rose}
-use Rattle.plc_base.specs.Streams.{SourceState, SinkState, SourceFaults, SinkFaults, PlansRoomFor, IsPrefixOf}
-use Rattle.plc_base.proofs.SourceLemmas.{no_reads, both_reads}
+use Rattle.plc_base.specs.Streams.{SourceState, SinkState, Gives, SourceFaults, SinkFaults, PlansRoomFor, IsPrefixOf}
+use Rattle.plc_base.proofs.SourceLemmas.{gives_none, gives_both, no_reads, both_reads}
 use Rattle.plc_base.proofs.SinkLemmas.{wrote_nothing, wrote_both, spared}
 use Rattle.script_lines.specs.declared.input.LineKind.{LineKind}
 use Rattle.script_lines.specs.declared.input.LineKind.TheVariants as kinds
@@ -53,7 +53,7 @@ module _ {M : Type 0} (turn : M → ℕ → Content → Turn M) (end_text : M �
   pub record SoFar (source0 source1 : SourceState) (sink0 sink1 : SinkState) (m : M) (seen count : ℕ) (window : List ℕ) (ended : Bool) : Type 0 where
     pub b : List ℕ
     pub w : List ℕ
-    pub gave : Consumes source0.left source1.left b
+    pub gave : Gives source0 source1 b
     pub wrote : Appends sink0.taken sink1.taken w
     pub source : SourceFaults source0 source1
     pub sink : SinkFaults sink0 sink1 (length w)
@@ -71,7 +71,7 @@ module _ {M : Type 0} (turn : M → ℕ → Content → Turn M) (end_text : M �
   so_far_none source sink seen count window ended seen_is count_is none = record {
     b = [];
     w = [];
-    gave = Consumes-nil source.left;
+    gave = gives_none source;
     wrote = Appends-nil sink.taken;
     source = no_reads source;
     sink = wrote_nothing sink;
@@ -84,8 +84,8 @@ module _ {M : Type 0} (turn : M → ℕ → Content → Turn M) (end_text : M �
       (stops : (m : M) (number : ℕ) → IsStop (turn m number TooMuch)) (s : SoFar source0 source1 sink0 sink1 m0 seen0 count0 window0 ended0) {seen1 count1 : ℕ}
       {window1 : List ℕ} {ended1 : Bool} {line : List ℕ} where
     module _ {result : Result (Option LineKind) Failed} (n : NextLine source1 source2 seen0 count0 window0 ended0 seen1 count1 window1 ended1 line result) where
-      gave_all : Consumes source0.left source2.left (s.b ++ n.octets)
-      gave_all = Consumes-trans source0.left source1.left source2.left s.b n.octets s.gave n.gave
+      gave_all : Gives source0 source2 (s.b ++ n.octets)
+      gave_all = gives_both s.b n.octets s.gave n.gave
 
       -- what may come now may have come then
       may_before : (more : List ℕ) (e : Bool) → MayFollow ended1 more e → MayFollow ended0 (n.octets ++ more) e
@@ -317,7 +317,7 @@ module _ {M : Type 0} (turn : M → ℕ → Content → Turn M) (end_text : M �
   ends_before source sink = record {
     b = [];
     w = [];
-    gave = Consumes-nil source.left;
+    gave = gives_none source;
     wrote = Appends-nil sink.taken;
     comes = (record { rest = (outcome turn end_text first [] source.ended).text; whole = refl }, inl (refl, refl));
     source = no_reads source;

@@ -4,13 +4,12 @@ use Rattle.std.proofs.Common.{nat_lt, nat_le, min, slice_range, zero, length-tak
 use Rattle.std.proofs.Common.{None, Some, Ok, Err, IsTrue, refl, sym, ◌∙◌, ap, subst, arith, append_assoc, length-append}
 use Rattle.std.proofs.lemmas.Bool.{both_ways, cases_lt, lt-ltb, le-ltb, lt-leb, eq-eqb, ne_eqb, eqb-true}
 use Rattle.std.proofs.lemmas.List.{append-nil, nil_from_length, take_all, take-append-le}
-use Rattle.std.proofs.KnownBytes.{Consumes-nil, Consumes-trans, Consumes-kept}
 use Rattle.std.specs.declared.option.Option.{Option}
-use Rattle.std.specs.Io.KnownBytes.{Consumes, Keeps}
 use Rattle.std.proofs.Math.Seq.{drop-cons}
 use Rattle.memchr.specs.Find.{NoneBefore, Nowhere, Passes, is_byte}
 use Rattle.plc_base.specs.declared.streams.Failed.{Failed}
-use Rattle.plc_base.specs.Streams.{SourceState}
+use Rattle.plc_base.specs.Streams.{SourceState, Gives, GivesNone}
+use Rattle.plc_base.proofs.SourceLemmas.{gives_none, gives_both, gives_kept}
 use Rattle.script_lines.specs.declared.input.LineKind.{LineKind}
 use Rattle.script_lines.specs.declared.input.LineKind.TheVariants as kinds
 use Rattle.script_lines.specs.declared.input.Found.TheVariants.{Feed, PastRoom}
@@ -177,7 +176,7 @@ clear_front ahead0 ahead1 octets is none = (
 pub record Taking (source0 source1 : SourceState) (seen0 count0 : ℕ) (ahead0 : List ℕ) (ended0 : Bool) (seen1 : ℕ) (ahead1 : List ℕ) (ended1 : Bool)
     (long : Bool) : Type 0 where
   pub octets : List ℕ
-  pub gave : Consumes source0.left source1.left octets
+  pub gave : Gives source0 source1 octets
   pub part : List ℕ
   pub is : PartIs part long
   pub used : seen1 ≡ seen0 + length part
@@ -187,7 +186,7 @@ pub record Taking (source0 source1 : SourceState) (seen0 count0 : ℕ) (ahead0 :
 pub taking_none : (source : SourceState) (seen count : ℕ) (ahead : List ℕ) (ended : Bool) → Taking source source seen count ahead ended seen ahead ended false
 taking_none source seen count ahead ended = record {
   octets = [];
-  gave = Consumes-nil source.left;
+  gave = gives_none source;
   part = [];
   is = refl;
   used = omega arith;
@@ -216,7 +215,7 @@ module _ {source0 source1 : SourceState} {seen0 count0 : ℕ} {ahead0 : List ℕ
       → Taking source0 source2 seen0 count0 ahead0 ended0 seen1 ahead2 ended2 long
   taking_more {source2} {ahead2} {ended2} going r = record {
     octets = t.octets ++ r.octets;
-    gave = Consumes-trans source0.left source1.left source2.left t.octets r.octets t.gave r.gave;
+    gave = gives_both t.octets r.octets t.gave r.gave;
     part = t.part;
     is = t.is;
     used = t.used;
@@ -360,11 +359,11 @@ module _ {source0 source1 : SourceState} {seen0 count0 : ℕ} {ahead0 : List ℕ
 
   -- a failure, with no whole line
   pub found_failure : (f : Failed) {source2 : SourceState} (seen2 count2 : ℕ) (line ahead2 : List ℕ) (ended2 : Bool) → ended1 ≡ false → NoFeed ahead1
-      → seen1 + length ahead1 ≤ 67108864 → Keeps source1.left source2.left
+      → seen1 + length ahead1 ≤ 67108864 → GivesNone source1 source2
       → NextLine source0 source2 seen0 count0 ahead0 ended0 seen2 count2 ahead2 ended2 line (Err f)
   found_failure f {source2} seen2 count2 line ahead2 ended2 going none room kept = record {
     octets = t.octets;
-    gave = Consumes-kept source0.left source1.left source2.left t.octets t.gave kept;
+    gave = gives_kept t.octets t.gave kept;
     found = tt;
     failed = (
       began ended0 t.still,

@@ -44,7 +44,7 @@ pub read_fills : {source0 source1 : SourceState} (xs buf rest : List ℕ) (first
 read_fills xs buf rest first end (Ok n) order within bound read = record {
   given = record {
     octets = take n buf;
-    gave = read.bytes.0;
+    gave = record { given = read.given; left = read.bytes.0 };
     grown = range_grown xs buf rest first end n order within bound.0;
     counted = omega (arith, length-take n buf, bound.0);
   };
@@ -55,6 +55,9 @@ read_fills xs buf rest first end (Ok n) order within bound read = record {
 read_fills xs buf rest first end (Err e) order within bound read = record {
   given = tt;
   over = tt;
-  kept = (range_grown xs buf rest first end 0 order within (omega arith) ∙ append-nil (slice_range xs first end), read.bytes);
+  kept = (
+    range_grown xs buf rest first end 0 order within (omega arith) ∙ append-nil (slice_range xs first end),
+    record { given = read.given; left = read.bytes },
+  );
   faults = one_read read;
 }

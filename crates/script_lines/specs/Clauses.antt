@@ -1,7 +1,7 @@
 -- What a machine's calls and the run over it say.
 use Rattle.std.specs.Prelude.{◌≡◌, ℕ, ◌≤◌, Bool, true, false, List, [], length, Result, Ok, Err, IsTrue}
-use Rattle.std.specs.Io.KnownBytes.{Consumes, Appends}
-use Rattle.plc_base.specs.Streams.{SourceState, SinkState, SourceFaults, SinkFaults, SourceRose, SinkRose, PlansRoomFor, IsPrefixOf}
+use Rattle.std.specs.Io.KnownBytes.{Appends}
+use Rattle.plc_base.specs.Streams.{SourceState, SinkState, Gives, SourceFaults, SinkFaults, SourceRose, SinkRose, PlansRoomFor, IsPrefixOf}
 use Rattle.script_lines.specs.declared.machine.Exit.{Exit}
 use Rattle.script_lines.specs.declared.machine.Exit.TheVariants as exits
 use Rattle.script_lines.specs.declared.text_output.StopReason.{StopReason}
@@ -100,7 +100,7 @@ pub record Drives {M : Type 0} (outcome : List ℕ → Bool → Outcome M) (last
     (sink0 sink1 : SinkState) (exit : Exit) : Type 0 where
   pub b : List ℕ
   pub w : List ℕ
-  pub gave : Consumes source0.left source1.left b
+  pub gave : Gives source0 source1 b
   pub wrote : Appends sink0.taken sink1.taken w
   pub comes : Comes outcome last source0 source1 sink0 sink1 b w exit
   pub source : SourceFaults source0 source1

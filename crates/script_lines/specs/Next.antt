@@ -2,9 +2,9 @@
 use Rattle.std.specs.Prelude.{◌≡◌, ◌⊎◌, ℕ, ◌+◌, ◌<◌, ◌≤◌, Bool, false, List, [], ◌∷◌, ◌++◌, length, take, slice_index, if◌then◌else◌, nat_lt, nat_le, true}
 use Rattle.std.specs.Prelude.{Result, Ok, Err, None, Some, IsTrue, OnErr, IfOk}
 use Rattle.std.specs.declared.option.Option.{Option}
-use Rattle.std.specs.Io.KnownBytes.{Consumes, Keeps, IsAtEnd}
+use Rattle.std.specs.Io.KnownBytes.{IsAtEnd}
 use Rattle.plc_base.specs.declared.streams.Failed.{Failed}
-use Rattle.plc_base.specs.Streams.{SourceState, ReadFaults}
+use Rattle.plc_base.specs.Streams.{SourceState, Gives, GivesNone, ReadFaults}
 use Rattle.script_lines.specs.declared.input.LineKind.{LineKind}
 use Rattle.script_lines.specs.declared.input.LineKind.TheVariants as kinds
 use Rattle.script_lines.specs.declared.input.Found.{Found}
@@ -46,7 +46,7 @@ count_read (Err e) = 0
 -- This many octets came after those ahead.
 pub record Given (source0 source1 : SourceState) (ahead0 ahead1 : List ℕ) (count : ℕ) : Type 0 where
   pub octets : List ℕ
-  pub gave : Consumes source0.left source1.left octets
+  pub gave : Gives source0 source1 octets
   pub grown : ahead1 ≡ ahead0 ++ octets
   pub counted : length octets ≡ count
 
@@ -54,13 +54,13 @@ pub record Given (source0 source1 : SourceState) (ahead0 ahead1 : List ℕ) (cou
 pub record Fills (source0 source1 : SourceState) (ahead0 ahead1 : List ℕ) (result : Result ℕ Failed) : Type 0 where
   pub given : IfOk result (Given source0 source1 ahead0 ahead1)
   pub over : IfOk result (λ count. count ≡ 0 → IsOver source1)
-  pub kept : OnErr result ((ahead1 ≡ ahead0) × Keeps source0.left source1.left)
+  pub kept : OnErr result ((ahead1 ≡ ahead0) × GivesNone source0 source1)
   pub faults : ReadFaults source0 source1 result
 
 -- Octets came after those ahead, and the end of input is seen if none came.
 pub record Refilled (source0 source1 : SourceState) (ahead0 ahead1 : List ℕ) (ended1 : Bool) : Type 0 where
   pub octets : List ℕ
-  pub gave : Consumes source0.left source1.left octets
+  pub gave : Gives source0 source1 octets
   pub grown : ahead1 ≡ ahead0 ++ octets
   pub none : octets ≡ [] → IsTrue ended1
 
@@ -69,7 +69,7 @@ pub record Refills (source0 source1 : SourceState) (ahead0 ahead1 : List ℕ) (e
     (result : Result (Unit {0}) Failed) : Type 0 where
   pub given : IfOk result (λ _. Refilled source0 source1 ahead0 ahead1 ended1)
   pub over : IsTrue ended1 → IsOver source1
-  pub kept : OnErr result ((ahead1 ≡ ahead0) × (ended1 ≡ false) × Keeps source0.left source1.left)
+  pub kept : OnErr result ((ahead1 ≡ ahead0) × (ended1 ≡ false) × GivesNone source0 source1)
   pub faults : ReadFaults source0 source1 result
 
 -- All octets ahead are used where they are more than a line may have, which makes the line too long.
@@ -120,7 +120,7 @@ pub record NextLine (source0 source1 : SourceState) (seen0 count0 : ℕ) (window
     (seen1 count1 : ℕ) (window1 : List ℕ) (ended1 : Bool) (line : List ℕ)
     (result : Result (Option LineKind) Failed) : Type 0 where
   pub octets : List ℕ
-  pub gave : Consumes source0.left source1.left octets
+  pub gave : Gives source0 source1 octets
   pub found : IfOk result (LineIs seen0 count0 window0 octets seen1 count1 window1 ended1 line)
   -- no line is whole
   pub failed : OnErr result ((ended0 ≡ false) × (lines_from seen0 count0 [] (window0 ++ octets) false ≡ []))

@@ -74,7 +74,7 @@ with_known_cut s t (w ∷ ws) done cut (false, mid, p, u, stop) e =
     rw failed (stop.0, ap (λ (k : Store). k.records) stop.1 ∙ known.records_is, ap (λ (k : Store). k.known_cut) stop.1 ∙ known.known_cut_is)
 
 -- a cut that comes one put later
-later : Option Cut → Option Cut
+pub later : Option Cut → Option Cut
 later None = None
 later (Some c) = Some (record c { nth = c.nth + 1 })
 
@@ -85,7 +85,7 @@ pub record IsSomeCut (s t : Store) (ws : List Write) (done : Bool) (cut : Option
   pub records : t.records ≡ (write ws cut s.records).records
   pub none : done ≡ true → cut ≡ None
 
-later_writes : (w : Write) (ws : List Write) (cut : Option Cut) (records : Records) → IfSome cut (λ c. 1 ≤ c.nth)
+pub later_writes : (w : Write) (ws : List Write) (cut : Option Cut) (records : Records) → IfSome cut (λ c. 1 ≤ c.nth)
     → write (w ∷ ws) (later cut) records ≡ write ws cut (insert records w.slot w.octets)
 unfolding later
 later_writes w ws None records h = refl
@@ -94,7 +94,7 @@ later_writes w ws (Some c) records h =
     let before : c.nth + 1 - 1 ≡ c.nth = omega arith in
     rw passes (ap (λ k. write ws (Some (record { nth = k; keeps_new = c.keeps_new })) (insert records w.slot w.octets)) before)
 
-later_comes : (cut : Option Cut) → IfSome cut (λ c. 1 ≤ c.nth) → IfSome (later cut) (λ c. 1 ≤ c.nth)
+pub later_comes : (cut : Option Cut) → IfSome cut (λ c. 1 ≤ c.nth) → IfSome (later cut) (λ c. 1 ≤ c.nth)
 unfolding later
 later_comes None h = tt
 later_comes (Some c) h = omega arith

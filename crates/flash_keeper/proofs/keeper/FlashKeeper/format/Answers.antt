@@ -9,7 +9,7 @@ use Rattle.flash_keeper.proofs.keeper.FlashKeeper.format.Goals as goal
 pub returns-clause-ok : goal.returns-clause-ok
 returns-clause-ok g c =
     let e = c.in-Ok.ensures.records in
-    λ i. record { records = e i; faults = 0; known_cut = None; listed = None }
+    λ i. record { records = e i; pending = None; faults = 0; known_cut = None; listed = None }
 
 pub returns-clause-left : goal.returns-clause-left
 returns-clause-left g c = nothing_else _ _ _ c.in-Ok.ensures.ready ∙ c.in-Ok.ensures.records

@@ -1,0 +1,3 @@
+mod DecidedCuts
+mod DecidedCalls
+mod Lives
