@@ -79,7 +79,7 @@ place_is (Some key) h = omega (arith, h.0)
 pub is_granted : (g : Granted) → IsReadable g → IsGranted g
 is_granted g h = record { address = h.address; active = h.grant; first = place_is g.key0 h.key0; second = place_is g.key1 h.key1 }
 
-text_same : (g h : Granted) → IsReadable g → IsReadable h → granting_text g ≡ granting_text h → g ≡ h
+pub text_same : (g h : Granted) → IsReadable g → IsReadable h → granting_text g ≡ granting_text h → g ≡ h
 text_same g h hg hh e =
     let lists : grant_spelling g ≡ grant_spelling h = cc (e) in
     same_Some g h (sym (grant_read g (grant_spelling g) (is_granted g hg, refl)) ∙ grant_read h (grant_spelling g) (is_granted h hh, lists))

@@ -1,3 +1,4 @@
+mod Agreements
 mod BesideSizes
 mod Choices
 mod DatagramFates
@@ -10,6 +11,11 @@ mod FateOverlaps
 mod FateSends
 mod FateSteps
 mod FateUnits
+mod GrantEvents
+mod GrantsTold
+mod JoiningsApart
+mod RandomCounts
+mod RandomEvents
 mod SealedCame
 mod Datagrams
 mod Forgeries

@@ -1,6 +1,8 @@
+pub mod Agreements
 pub mod Choices
 pub mod BesideSizes
 pub mod Datagrams
+pub mod JoiningsApart
 pub mod OctetPlaces
 pub mod FatePlaces
 pub mod RunLaws

@@ -1,18 +1,21 @@
 //! Laws of runs: each stands as the contract of a function that does nothing.
+ghost use Rattle.run_laws.specs.Agreements.{EveryJoiningAgreesOnItsGrant};
 ghost use Rattle.run_laws.specs.Choices.{EveryChoiceIsRight};
 ghost use Rattle.run_laws.specs.BesideSizes.{TablesBesideKeepTheirSizes};
 ghost use Rattle.run_laws.specs.DatagramFates.{EverySendHasAFate};
 ghost use Rattle.run_laws.specs.Datagrams.{EveryDatagramIsMoved};
 ghost use Rattle.run_laws.specs.FatePlaces.{EveryFateIsAtOnePlace};
 ghost use Rattle.run_laws.specs.Forgeries.{EveryFirstForgeryIsInTheGame};
+ghost use Rattle.run_laws.specs.JoiningsApart.{EveryJoiningIsItsOwn};
 ghost use Rattle.run_laws.specs.OctetPlaces.{EveryOctetIsAtOnePlace};
 ghost use Rattle.run_laws.specs.RunLaws.{EveryRunIsLawful};
 
 use line_laws::{
     every_count_is_right, every_datagram_was_sent, every_flight_falls, every_flight_is_octets,
-    every_flight_is_spelled, every_forgery_is_reported, every_history_is_kept, every_log_is_kept,
-    every_nonce_differs, every_run_holds, every_run_holds_throughout,
-    every_run_stays_in_open_custody, every_tag_rises, network_keeps_ranges, the_start_holds,
+    every_flight_is_spelled, every_forgery_is_reported, every_history_is_kept,
+    every_joining_agrees, every_log_is_kept, every_nonce_differs, every_run_holds,
+    every_run_holds_throughout, every_run_stays_in_open_custody, every_tag_rises,
+    every_trace_is_right, network_keeps_ranges, the_start_holds,
 };
 use line_progress::{
     datagrams_came, deliveries_have_fates, events_keep_bodies, events_keep_flights,
@@ -106,6 +109,32 @@ pub fn every_first_forgery_is_in_the_game()
     network_keeps_ranges();
 }
 
+/// In every run of the network, before its first forged event, over restarts, failed writes and changes of keys: where a meter takes a grant, an event before
+/// it was answered Keyed, in which the coordinator issued the keys of this grant to this meter and made the tag of the third message over it and over the same
+/// random values; and the grant, with its address, its keys and its active index, is the ring that the meter then holds. Where a joining is done, its meter
+/// took such a grant before with the same random values.
+pub fn every_joining_agrees_on_its_grant()
+    ensures { EveryJoiningAgreesOnItsGrant }
+{
+    every_count_is_right();
+    every_flight_is_octets();
+    every_forgery_is_reported();
+    every_joining_agrees();
+    every_run_holds_throughout();
+    every_trace_is_right();
+    network_keeps_ranges();
+}
+
+/// In every run of the network without a forged event, in which the coordinator is given no random value twice, two joinings that are done have another RAND_S
+/// each: so no joining that a meter took is done twice.
+pub fn every_joining_is_its_own()
+    ensures { EveryJoiningIsItsOwn }
+{
+    every_flight_is_octets();
+    every_run_holds_throughout();
+    network_keeps_ranges();
+}
+
 /// In every run of the network these laws hold.
 pub fn every_run_is_lawful()
     ensures { EveryRunIsLawful }
@@ -116,4 +145,6 @@ pub fn every_run_is_lawful()
     every_octet_is_at_one_place();
     every_send_has_a_fate();
     every_fate_is_at_one_place();
+    every_joining_agrees_on_its_grant();
+    every_joining_is_its_own();
 }

@@ -3,7 +3,7 @@ use Rattle.std.proofs.Common.{refl}
 use Rattle.worked_scripts.proofs.ComputedScripts.{computed}
 use Rattle.worked_scripts.specs.JoiningScripts.{AMeterJoinsOverTheAir, AnOldThirdPacketIsRefused, PlainFramesTakeNoCounter, AMeterJoinsThroughAnAgent}
 use Rattle.worked_scripts.specs.JoiningScripts.{ASessionEndsAfterTwoMinutes, ChallengesAreJudgedInOrder, AForgedGrantIsNamed, AForgedAnswerIsNamed}
-use Rattle.worked_scripts.specs.JoiningScripts.{PacketsAreChecked, EightSessionsAreOpen, AKickedMeterMayNotKnow}
+use Rattle.worked_scripts.specs.JoiningScripts.{PacketsAreChecked, EightSessionsAreOpen, AKickedMeterMayNotKnow, TwoJoiningsHaveTwoValues}
 
 pub a_meter_joins_over_the_air : AMeterJoinsOverTheAir
 unfolding computed AMeterJoinsOverTheAir
@@ -48,3 +48,7 @@ eight_sessions_are_open = (refl, refl)
 pub a_kicked_meter_may_not_know : AKickedMeterMayNotKnow
 unfolding computed AKickedMeterMayNotKnow
 a_kicked_meter_may_not_know = (refl, refl)
+
+pub two_joinings_have_two_values : TwoJoiningsHaveTwoValues
+unfolding computed TwoJoiningsHaveTwoValues
+two_joinings_have_two_values = (refl, refl, refl, refl, refl)

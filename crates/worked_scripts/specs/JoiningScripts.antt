@@ -3,6 +3,7 @@ use Rattle.std.specs.Prelude.{◌≡◌, ℕ, true, false, List, [], ◌∷◌, 
 use Rattle.std.specs.List.{range_with_len}
 use Rattle.byteorder.specs.Endian.{big_bytes}
 use Rattle.plc_base.specs.declared.key.Key.{Key}
+use Rattle.plc_base.specs.declared.key.RandomOctets.{RandomOctets as Value}
 use Rattle.plc_base.specs.Grant.{Granted}
 use Rattle.eap_psk.specs.Messages as packets
 use Rattle.eap_psk.specs.declared.server.Server.{Server}
@@ -10,10 +11,11 @@ use Rattle.eap_psk.specs.declared.peer.Peer.{Peer}
 use Rattle.line_events.specs.declared.event.Answer.TheVariants as answers
 use Rattle.line_events.specs.declared.event.Event.{Event}
 use Rattle.line_events.specs.declared.event.Event.TheVariants.{Coordinator, Meter, Depot, Near, Counter, Number, Allow, RandomOctets, Join, Deliver, Inject}
-use Rattle.line_events.specs.declared.event.Event.TheVariants.{Tick, Cut}
+use Rattle.line_events.specs.declared.event.Event.TheVariants.{Leave, Tick, Cut}
 use Rattle.line_events.specs.declared.event.Event.TheVariants.{Activate, Challenge, Kick}
-use Rattle.line_rules.specs.Worlds.{start}
+use Rattle.line_rules.specs.Worlds.{Pairing, start}
 use Rattle.line_rules.specs.Runs.{run}
+use Rattle.line_progress.specs.Joinings.{doings}
 use Rattle.worked_scripts.specs.Scripts.{plain, plain_second, plain_third, plain_fourth, eui, group_key, pair_key, second_key, rand_k, rand_r, rand_p, rand_q}
 use Rattle.worked_scripts.specs.Scripts.{alone, up_frame, down_frame, said_of, answers_after, answers_to, counts_of, forged_at_last, takers, doers, admissions}
 
@@ -255,3 +257,24 @@ unfoldable pub AKickedMeterMayNotKnow : Type 0
 AKickedMeterMayNotKnow =
     (answers_after 12 kicked_unaware ≡ answers.Kicked ∷ answers.AlreadyJoined ∷ [])
     × (counts_of kicked_unaware ≡ record { events = 14; flights = 6; sends = 0; ups = 0; forged = 0 })
+
+-- # Two joinings
+
+-- the meter leaves and joins again, the coordinator being given this value
+abbrev pub joining_twice : Value → List Event
+joining_twice value =
+    joining ++ (Leave 1 ∷ RandomOctets 0 value ∷ RandomOctets 1 rand_q ∷ Join 1 0 ∷ Deliver 7 0 1 ∷ Deliver 8 1 1 ∷ Deliver 9 0 1 ∷ Deliver 10 1 1
+    ∷ Deliver 11 0 1 ∷ [])
+
+-- the values of the coordinator in the joinings that are done
+abbrev pub values_done : List Event → List Value
+values_done events = map (λ (p : Pairing). p.agreed.rand_s) (doings (run plain start events))
+
+-- Two joinings have the two values that the coordinator was given; where it is given one value twice, two joinings have this value.
+unfoldable pub TwoJoiningsHaveTwoValues : Type 0
+TwoJoiningsHaveTwoValues =
+    (doers (run plain start (joining_twice rand_p)) ≡ 1 ∷ 1 ∷ [])
+    × (values_done (joining_twice rand_p) ≡ rand_k ∷ rand_p ∷ [])
+    × ((counts_of (joining_twice rand_p)).forged ≡ 0)
+    × (values_done (joining_twice rand_k) ≡ rand_k ∷ rand_k ∷ [])
+    × ((counts_of (joining_twice rand_k)).forged ≡ 0)

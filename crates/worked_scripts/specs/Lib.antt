@@ -14,3 +14,4 @@ pub mod ArrivalScripts
 pub mod DiscoveryScripts
 pub mod FateScripts
 pub mod AdmissionScripts
+pub mod PlainScripts

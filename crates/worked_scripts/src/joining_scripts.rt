@@ -1,7 +1,7 @@
 //! What becomes of joinings: over the air and through an agent, in time and late, with packets that are refused.
 ghost use Rattle.worked_scripts.specs.JoiningScripts.{AMeterJoinsOverTheAir, AnOldThirdPacketIsRefused, PlainFramesTakeNoCounter, AMeterJoinsThroughAnAgent};
 ghost use Rattle.worked_scripts.specs.JoiningScripts.{ASessionEndsAfterTwoMinutes, ChallengesAreJudgedInOrder, AForgedGrantIsNamed, AForgedAnswerIsNamed};
-ghost use Rattle.worked_scripts.specs.JoiningScripts.{PacketsAreChecked, EightSessionsAreOpen, AKickedMeterMayNotKnow};
+ghost use Rattle.worked_scripts.specs.JoiningScripts.{PacketsAreChecked, EightSessionsAreOpen, AKickedMeterMayNotKnow, TwoJoiningsHaveTwoValues};
 
 /// A meter joins over the air: both ends come to an end, and the meter has its address; its session is over, and the keys of its grant are
 /// known as issued.
@@ -72,4 +72,10 @@ pub fn eight_sessions_are_open()
 #[tactic(auto, using(crate::proofs::JoiningScripts::a_kicked_meter_may_not_know))]
 pub fn a_kicked_meter_may_not_know()
     ensures { AKickedMeterMayNotKnow }
+{}
+
+/// Two joinings have the two values that the coordinator was given; where it is given one value twice, two joinings that are done have this value.
+#[tactic(auto, using(crate::proofs::JoiningScripts::two_joinings_have_two_values))]
+pub fn two_joinings_have_two_values()
+    ensures { TwoJoiningsHaveTwoValues }
 {}

@@ -8,5 +8,7 @@ returns c entries run = record {
   datagrams = c.every_datagram_is_moved.ensures entries run;
   places = c.every_octet_is_at_one_place.ensures entries run;
   fates = c.every_send_has_a_fate.ensures entries run;
+  grants = c.every_joining_agrees_on_its_grant.ensures entries run;
+  own = c.every_joining_is_its_own.ensures entries run;
   one = c.every_fate_is_at_one_place.ensures entries run;
 }
