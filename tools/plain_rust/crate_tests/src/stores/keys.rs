@@ -1,9 +1,13 @@
-//! Which records of a ring and of a key book have a reading.
+//! Which records of a ring and of a key book have a reading, and that what holds a secret shows none of it.
+
+extern crate alloc;
 
 use std::dialect::*;
 
-use group_keys::{KeyBook, KeyRing};
-use plc_base::{Eui, Keeper, KeyIndex, MemKeeper, Record};
+use alloc::format;
+use eap_psk::{Agreed, Peer, Server};
+use group_keys::{BookEntry, KeyBook, KeyRing};
+use plc_base::{Eui, Grant, Keeper, Key, KeyIndex, MemKeeper, RandomOctets, Record, Short};
 use std::test::Fail;
 use store_tables::OpenFault;
 
@@ -125,6 +129,51 @@ fn an_entry_has_a_reading() {
     let mut keeper = MemKeeper::new(rt.alloc())?;
     assert!(rt; keeper.put(0x1000, &Record::from_octets(&[0; 60])).is_ok());
     assert!(rt; KeyBook::open(rt.alloc(), &keeper).is_err());
+    Ok(())
+})
+}
+
+// An octet of a secret, which no other number here is written as.
+const SECRET: u8 = 0xA7;
+
+// The record of a ring with two keys of such octets.
+fn secret_ring() -> [u8; 38] {
+    let mut octets = ring_octets([1, 0, 1, 0], [1, SECRET], [1, SECRET]);
+    for place in (6..21).chain(23..38) {
+        octets[place] = SECRET;
+    }
+    octets
+}
+
+// What a derived `Debug` writes has no clause.
+#[test]
+fn debug_shows_no_secret() {
+    std::test::check(|rt: HostRuntime| -> Result<(), Fail> {
+    let mut keeper = MemKeeper::new(rt.alloc())?;
+    assert!(rt; keeper.put(1, &Record::from_octets(&secret_ring())).is_ok());
+    let Ok(ring) = KeyRing::open(&keeper) else {
+        return Err("the ring has a reading".into());
+    };
+    let Some(address) = Short::new(1) else {
+        return Err("1 is an address".into());
+    };
+    let (key, random, eui) = (Key([SECRET; 16]), RandomOctets([SECRET; 16]), Eui([1; 8]));
+    let grant = Grant { address, active: KeyIndex::first(), keys: [Some(key), Some(key)] };
+    let entry = BookEntry { eui, psk: key, allowed: true, issued0: Some(key), issued1: Some(key) };
+    let agreed = Agreed { rand_s: random, rand_p: random };
+    let peer = Peer { eui, id_s: eui, rand_s: random, rand_p: random };
+    let server = Server { eui, id_s: eui, rand_s: random, rand_p: Some(random) };
+    for (plain, spread) in [
+        (format!("{ring:?}"), format!("{ring:#x?}")),
+        (format!("{grant:?}"), format!("{grant:#x?}")),
+        (format!("{entry:?}"), format!("{entry:#x?}")),
+        (format!("{agreed:?}"), format!("{agreed:#x?}")),
+        (format!("{peer:?}"), format!("{peer:#x?}")),
+        (format!("{server:?}"), format!("{server:#x?}")),
+    ] {
+        assert!(rt; plain.contains("(..)") && !plain.contains("167"), "{plain}");
+        assert!(rt; spread.contains("(..)") && !spread.contains("a7"), "{spread}");
+    }
     Ok(())
 })
 }
