@@ -1,6 +1,9 @@
 """Tests of the tools, on texts that are written here: python3 tools/tests.py. LINE_REPLAY names the program, as .ci/rows takes it."""
 import hashlib
+import importlib.machinery
+import importlib.util
 import os
+import re
 import shutil
 import subprocess
 import tempfile
@@ -266,7 +269,7 @@ class Program(unittest.TestCase):
 
 
 class Dist(unittest.TestCase):
-    """What a maker vendors is made, has its sums, and builds without a warning."""
+    """What a maker vendors is made, has its sums, builds without a warning of rustc, and does what its page says."""
 
     def test_it_is_made_and_builds(self):
         with tempfile.TemporaryDirectory() as room:
@@ -280,7 +283,7 @@ class Dist(unittest.TestCase):
             self.builds(f"{room}/dist")
 
     def sums(self, folder):
-        """Holds the files against their sums, and returns them by their names."""
+        """Holds the files against their sums, and returns those that are texts by their names."""
         with open(f"{folder}/MANIFEST", encoding="utf-8") as file:
             sums = {path: known for known, path in (line.rstrip("\n").split("  ", 1) for line in file)}
         texts = {}
@@ -288,20 +291,80 @@ class Dist(unittest.TestCase):
             with open(f"{folder}/{path}", "rb") as file:
                 octets = file.read()
             self.assertEqual(hashlib.sha256(octets).hexdigest(), known, path)
-            texts[path] = octets.decode()
+            if not path.endswith(".bin"):
+                texts[path] = octets.decode()
         return texts
+
+    def run_in(self, folder, *words, text=None):
+        """Runs a command in a folder, for which warnings are errors."""
+        how = {**os.environ, "CARGO_NET_OFFLINE": "true", "RUSTFLAGS": "-D warnings"}
+        return subprocess.run(words, cwd=folder, env=how, input=text, capture_output=True, text=True, check=False)
+
+    def made(self, folder, *words, text=None):
+        """What a command in a folder writes, where it says nothing else."""
+        done = self.run_in(folder, *words, text=text)
+        self.assertEqual((done.returncode, done.stderr), (0, ""), f"{words} {done.stdout[-2000:]}")
+        return done.stdout
 
     def builds(self, folder):
         """Builds the crate, with all features and with the one that is always there, where cargo and its crates are."""
         settings = f"{os.environ.get('KENNELMORN_PROGRAMS', f'{TOP}/target/programs')}/plain/.cargo/config.toml"
         if not shutil.which("cargo") or not os.path.exists(settings):
             self.skipTest("no cargo, or none of the crates that it needs")
-        os.makedirs(f"{folder}/rust/.cargo")
-        shutil.copy(settings, f"{folder}/rust/.cargo/config.toml")
-        how = {**os.environ, "CARGO_NET_OFFLINE": "true", "RUSTFLAGS": "-D warnings"}
-        for words in (("--all-features",), ("--no-default-features",), ()):
-            done = subprocess.run(["cargo", "check", "-q", *words], cwd=f"{folder}/rust", env=how, capture_output=True, text=True, check=False)
-            self.assertEqual((done.returncode, done.stderr), (0, ""), words)
+        for it in ("rust", "c", "test/rust"):
+            os.makedirs(f"{folder}/{it}/.cargo")
+            shutil.copy(settings, f"{folder}/{it}/.cargo/config.toml")
+        for words in (("--all-features", "--all-targets"), ("--no-default-features",), ()):
+            self.made(f"{folder}/rust", "cargo", "check", "-q", *words)
+        self.examples(folder)
+        self.misuses(f"{folder}/rust")
+        self.plays(folder)
+
+    def examples(self, folder):
+        """A meter over flash ends well, and nodes with further reach do what the reports say."""
+        self.made(f"{folder}/rust", "cargo", "build", "-q", "--all-features", "--examples")
+        self.assertIn("then a bit changes: bits have changed", self.made(folder, "rust/target/debug/examples/flash"))
+        scripts = sorted(it[:-7] for it in os.listdir(f"{folder}/test") if it.endswith(".script"))
+        self.assertEqual(len(scripts), 5)
+        unsaid = ("node ", "key ", "route ", "peer ", "floor ", "end ")
+        for name in scripts:
+            with open(f"{folder}/test/{name}.script", encoding="utf-8") as script, open(f"{folder}/test/{name}.report", encoding="utf-8") as report:
+                wanted = [it for it in report.read().splitlines() if not it.startswith(unsaid)]
+                self.assertEqual(self.made(folder, "rust/target/debug/examples/further_reach", text=script.read()).splitlines(), wanted, name)
+
+    def misuses(self, folder):
+        """What nobody may do with an accepted frame or a chain does not compile: the uses are those of .ci/refused_uses, which tries them in Rattle."""
+        loader = importlib.machinery.SourceFileLoader("refused_uses", f"{TOP}/.ci/refused_uses")
+        refused = importlib.util.module_from_spec(importlib.util.spec_from_loader("refused_uses", loader))
+        loader.exec_module(refused)
+        for _, source, uses in refused.PARTS.values():
+            source = "#![allow(unused)]\n" + re.sub(r"^use ", "use kennelmorn_node::", source, flags=re.MULTILINE) + "\nfn main() {}\n"
+            for place, use, _, code in [(None, "", None, None), *uses]:
+                with open(f"{folder}/examples/misuse.rs", "w", encoding="utf-8") as file:
+                    file.write(refused.with_use(source, uses, place, use))
+                done = self.run_in(folder, "cargo", "check", "-q", "--all-features", "--example", "misuse")
+                self.assertEqual(set(re.findall(r"^error\[(\w+)\]", done.stderr, re.MULTILINE)), {code} - {None}, f"{use} {done.stderr}")
+        os.remove(f"{folder}/examples/misuse.rs")
+
+    def plays(self, folder):
+        """The vectors are played by the crate and by the library, and a changed one is found."""
+        right = r"player: \d+ frames, \d+ calls of \d+ nodes, 0 wrong\n$"
+        self.assertRegex(self.made(f"{folder}/test/rust", "cargo", "run", "-q"), right)
+        if not (cc := shutil.which(os.environ.get("CC", "cc"))):
+            return
+        self.made(f"{folder}/c", "cargo", "build", "-q", "--profile", "small")
+        words = (cc, "-std=c11", "-Wall", "-Wextra", "-Wpedantic", "-Werror", "-I../c", "-o", "player", "player.c", "../c/target/small/libmeter.a")
+        self.made(f"{folder}/test", *words)
+        self.assertRegex(self.made(f"{folder}/test", "./player"), right)
+        with open(f"{folder}/test/vectors.bin", "r+b") as file:
+            octets = bytearray(file.read())
+            octets[len(octets) // 2] ^= 1
+            file.seek(0)
+            file.write(octets)
+        self.made(f"{folder}/test", *words)
+        done = subprocess.run(["./player"], cwd=f"{folder}/test", capture_output=True, text=True, check=False, timeout=60)
+        self.assertNotEqual(done.returncode, 0)
+        self.assertNotRegex(done.stdout, right)
 
 
 if __name__ == "__main__":

@@ -2,14 +2,12 @@
 """Has the program meter_host play the meters of examples/, by its items alone, and compares it with what line_replay reported of them.
 
     tools/meter_host/played.py METER_HOST [EXAMPLE..]    the path of the program, and examples by name; else all whose lines are calls of a meter
-    tools/meter_host/played.py METER_HOST --write FILE   also writes each call with its answer, and what each meter has stored at the end, as JSON
 
 Each meter of the script is a program of its own, and gets what the script's lines bring to it: a grant of the workshop, a neighbour, a random value, to
 join, to send, a frame. The coordinator is that of the report: its frames are taken from there. What a meter sends has to be its flights of the report,
 to the octet, so line_replay's coordinator would answer it as it did; and how each call ended, that it joined with this address, and what it handed up
 have to be what the report says. It is the owner's side in Python, with the format of docs/FORMATS.md, "Calls of a meter and their answers".
 """
-import json
 import os
 import re
 import struct
@@ -94,7 +92,8 @@ class Meter:
                 if answer.status == 1:
                     answer.refusal = REFUSALS[kind].split()[given[1] - 1]
         if kind not in (LOAD, VERSION):
-            self.calls.append({"in": [kind, octets.hex()], "out": items})
+            named = {"refusal": answer.refusal} if answer.refusal else {}
+            self.calls.append({"in": [kind, octets.hex()], "out": items, **named})
         return answer
 
     def written(self):
@@ -199,16 +198,10 @@ class Play:
 
 def main(program, *names):
     """Plays the examples."""
-    written = names[1] if names[:1] == ("--write",) else None
-    names = names[2:] if written else names
     known = sorted(it[:-7] for it in os.listdir(f"{TOP}/examples") if it.endswith(".script"))
     plays = [play for play in (Play(program, name) for name in names or known) if not BEYOND & {it[0] for it in play.lines}]
     for play in plays:
         play.run()
-    if written:
-        with open(written, "w", encoding="utf-8") as file:
-            json.dump([{"example": play.name, "meters": [it.written() for it in play.meters[1:]]} for play in plays], file, indent=1)
-            file.write("\n")
     seen = {it: sum(it in play.seen for play in plays) for it in ("join", "up")}
     meters, lines = sum(len(it.meters) - 1 for it in plays), sum(len(it.lines) for it in plays)
     print(f"meter_host: {meters} meters played {len(plays)} examples, {lines} lines, as line_replay reported them: in {seen['join']} a meter joined, "

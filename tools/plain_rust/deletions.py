@@ -2,6 +2,8 @@
 
 Each pass marks tokens as gone and counts what it took. A form that a pass does not know stops the export.
 """
+import re
+
 from lexer import CLAUSES, Stop, Token, closing, solid, step
 
 
@@ -261,8 +263,27 @@ def handles(ts, tally):
             tally["handle of an expect"] += 1
 
 
+# Calls without effect. What one answers is named where the prover is to have a fact of it.
+READERS = ("count", "entries", "len", "number", "octets")
+
+
+def readings(ts, tally):
+    """`let _count = self.bodies.count();`, whose answer nothing reads."""
+    for i, t in enumerate(ts):
+        if t.gone or t.kind != "ident" or t.text != "let" or not re.match(r"_\w", ts[step(ts, i)].text):
+            continue
+        end = i
+        while ts[end].gone or ts[end].text != ";":
+            end += 1
+        words = solid(ts[i : end + 1])
+        if words[2] == "=" and words[-3:] == ["(", ")", ";"] and words[-4] in READERS and all(re.fullmatch(r"\w+|\.", it) for it in words[3:-3]):
+            tally["reading for the prover"] += 1
+            drop(ts, i, end + 1)
+            drop_head(ts, i)
+
+
 def all_of_them(ts, tally):
     """Every deletion, in an order in which each finds what it looks for."""
     clauses(ts, tally)
-    for each in (ghosts, attributes, bounds, models, formatters, handles):
+    for each in (ghosts, attributes, bounds, models, formatters, handles, readings):
         each(ts, tally)

@@ -15,6 +15,8 @@ MACROS = {"format", "assert", "assert_eq", "assert_ne", "panic", "required", "pr
 ROOT_LINES = re.compile(r"^#!\[(no_std|allow\(unused\))\]\n|^#\[macro_use\]\nextern crate rattle_std as std;\n|^extern crate alloc as heap;\n"
                         r"|^#\[cfg\(any\(test, feature = \"std\"\)\)\]\nextern crate std as host;\n", re.MULTILINE)
 CLAUSES = ("requires", "ensures")
+# A check of a clause, as border.py writes it.
+CHECK = re.compile(r'\s*(?:\w+::)?required!\((.*), "[^"]*: (\w+)"\);')
 FUNCTION, OF_TRAIT = re.compile(r"\s*pub (const )?fn "), re.compile(r"    fn ")
 # In documentation: a label in backquotes, and the path where it is another one.
 LINK = re.compile(r"\[`([^`\]]+)`\](?:\(([\w:]+)\))?")
@@ -177,8 +179,19 @@ def contract_of(lines, at):
     return found if any(it.startswith(CLAUSES) for it in found) else []
 
 
+def panics_of(lines, at):
+    """What the documentation says of the checks at the begin of the body of the function at a line: each with its clause."""
+    while lines[at].strip() not in ("{", ";", "}", "") and not lines[at].endswith((" {", "{}")):
+        at += 1
+    found = []
+    while at + 1 < len(lines) and (check := CHECK.fullmatch(lines[at + 1])):
+        found.append(f" - where `requires {check.group(2)}` does not hold, which is checked by `{check.group(1)}`")
+        at += 1
+    return ["", " # Panics", "", *found] if found else []
+
+
 def with_contracts(text):
-    """A file whose public functions, and those of its public traits, have their contracts in the documentation."""
+    """A file whose public functions, and those of its public traits, have their contracts in the documentation, and which calls stop."""
     lines, made, is_trait = text.split("\n"), [], False
     for at, line in enumerate(lines):
         is_trait = line.startswith("pub trait ") or is_trait and line != "}"
@@ -188,7 +201,7 @@ def with_contracts(text):
             top -= 1
         if is_public and top > 0 and made[top - 1].strip().startswith("///") and (clauses := contract_of(lines, at)):
             margin = re.match(r"\s*", line).group(0)
-            shown = ["", " # Contract", "", " ```text", *[f" {it}" for it in clauses], " ```"]
+            shown = [*panics_of(lines, at), "", " # Contract", "", " ```text", *[f" {it}" for it in clauses], " ```"]
             made[top:top] = [f"{margin}///{it}" for it in shown]
         made.append(line)
     return "\n".join(made)

@@ -14,6 +14,7 @@ sys.path.insert(0, HERE)
 sys.dont_write_bytecode = True
 import border  # noqa: E402
 import lexer  # noqa: E402
+import lints  # noqa: E402
 import one_crate  # noqa: E402
 import rewrites  # noqa: E402
 
@@ -115,6 +116,12 @@ class Deletions(unittest.TestCase):
 
     def test_the_handle_of_an_expect_is_gone(self):
         self.assertEqual(code('fn f() { a.expect(&rt, "b"); a.expect("c"); }'), words('fn f() { a.expect("b"); a.expect("c"); }'))
+
+    def test_a_reading_for_the_prover_is_gone_with_its_comment(self):
+        text = "fn f() {\n    g();\n    // It has a size.\n    let _size = self.a.count();\n    h()\n}\n"
+        self.assertEqual(plain(text)[0], "fn f() {\n    g();\n    h()\n}\n")
+        for it in ("let _n = a.remove(0);", "let _ = a.len();", "let n = a.len();", "let _n = f(a).len();", "let _n = a.len() + 1;"):
+            self.assertEqual(code(f"fn f() {{ {it} }}"), words(f"fn f() {{ {it} }}"))
 
     def test_what_is_no_known_form_stops(self):
         for source in ("fn f() requires x = { y } {}", "ghost x;", "fn f(a: Vec<Drop>) {}", "fn fmt<V: fmt::Write>(f: fmt::Formatter<V>) {}"):
@@ -335,10 +342,25 @@ class OneCrate(unittest.TestCase):
         for other in (f"impl It {{\n{call}}}\n", "/// Does it.\npub fn it() {}\n// ensures\n", text.replace("///", "//")):
             self.assertEqual(one_crate.with_contracts(other), other)
 
+    def test_a_check_stands_in_the_documentation(self):
+        check = '    crate::required!(a < 3, "own: it: small");\n'
+        text = f"/// Does it.\npub fn it(a: u8)\n    // requires small {{ a < 3 }}\n{{\n{check}    b(a)\n}}\n"
+        shown = "/// Does it.\n///\n/// # Panics\n///\n/// - where `requires small` does not hold, which is checked by `a < 3`\n///\n/// # Contract\n"
+        self.assertTrue(one_crate.with_contracts(text).startswith(shown), one_crate.with_contracts(text))
+        self.assertNotIn("Panics", one_crate.with_contracts(text.replace(check, "")))
+
     def test_links_lead_into_the_one_crate(self):
         text = "/// [`It`], [`other::It`], [`it`](crate::it), [`a_law`], [`laws::b`], [`c`](It::c).\npub fn it() { x[`a`] }\n"
         wanted = "/// [`It`], [`other::It`](crate::other::It), [`it`](crate::own::it), `a_law`, `laws::b`, [`c`](It::c).\npub fn it() { x[`a`] }\n"
         self.assertEqual(one_crate.with_links(text, "own", {"own", "other"}, {"a_law", "laws"}), wanted)
+
+    def test_a_changed_place_is_found_by_lines_that_are_there_once(self):
+        old, new = "a\nb\na\nb\nc\nd\n", "a\nb\na\nx\nb\nc\ne\nd\n"
+        rows = lints.hunks("it.rs", old, new)
+        for _, before, after in rows:
+            self.assertEqual(old.count(before), 1)
+            old = old.replace(before, after)
+        self.assertEqual(old, new)
 
 
 class Exports(unittest.TestCase):

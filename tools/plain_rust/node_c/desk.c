@@ -4,53 +4,9 @@
  * On a host it is an ordinary program. On bare metal it runs under `qemu-arm -cpu max`, by two calls of Linux. */
 #include "meter.h"
 #include "frames.h"
+#include "console.h"
 
 enum { NODES = 3, RECORDS = 32, QUEUE = 128, HEAP = 160000 };
-
-#if __STDC_HOSTED__
-#include <stdio.h>
-#include <stdlib.h>
-#include <string.h>
-static void print(const char *text) { fputs(text, stdout); }
-static void end(int status) { exit(status); }
-#else
-void *memcpy(void *, const void *, size_t);
-int memcmp(const void *, const void *, size_t);
-void *memset(void *, int, size_t);
-long sys_write(int file, const void *octets, size_t count);
-void sys_exit(int status);
-void start(void);
-__asm__(".syntax unified\n.thumb\n"
-        ".global sys_write\n.thumb_func\nsys_write:\n push {r7, lr}\n movs r7, #4\n svc #0\n pop {r7, pc}\n"
-        ".global sys_exit\n.thumb_func\nsys_exit:\n movs r7, #1\n svc #0\n b sys_exit\n"
-        ".global start\n.thumb_func\nstart:\n bl main\n b sys_exit\n");
-static void print(const char *text) {
-    size_t count = 0;
-    while (text[count] != 0)
-        count++;
-    sys_write(1, text, count);
-}
-static void end(int status) { sys_exit(status); }
-int main(void);
-#endif
-
-static void print_number(unsigned number) {
-    char text[12] = {0};
-    unsigned at = 11;
-    do
-        text[--at] = (char)('0' + number % 10), number /= 10;
-    while (number > 0);
-    print(text + at);
-}
-
-static void print_octets(const uint8_t *octets, size_t count) {
-    char text[3] = {0};
-    for (size_t i = 0; i < count; i++) {
-        text[0] = "0123456789abcdef"[octets[i] >> 4], text[1] = "0123456789abcdef"[octets[i] & 15];
-        print(text);
-    }
-    print("\n");
-}
 
 static unsigned checks, wrong;
 
@@ -60,14 +16,6 @@ static void check(int holds, const char *what) {
         return;
     wrong++;
     print("wrong: "), print(what), print("\n");
-}
-
-void meter_stop(const uint8_t *why, size_t count) {
-    (void)why, (void)count;
-    print("stopped\n");
-    end(101);
-    for (;;)
-        continue;
 }
 
 /* # Nodes, each with its store, its random values, and what it said last */

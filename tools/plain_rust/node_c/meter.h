@@ -120,8 +120,8 @@ struct coordinator_grant { uint16_t address; uint8_t index; uint8_t key[16]; };
 /* Lets a meter join, and says which address it gets; or gives the grant of a workshop. The book has 999 meters. */
 int coordinator_allow(struct coordinator *c, const uint8_t eui[8], const uint8_t psk[16], uint16_t *address);
 int coordinator_depot(struct coordinator *c, const uint8_t eui[8], const uint8_t psk[16], struct coordinator_grant *grant);
-/* A change of the group key, in this order (docs/OPERATING.md): the key at the index that does not seal; challenge and activate for each meter; then
- * the coordinator itself. */
+/* A change of the group key, in this order (docs/OPERATING.md): the key at the index that does not seal; challenge for each meter; activate for each meter;
+ * then the coordinator itself. */
 int coordinator_rekey(struct coordinator *c, uint8_t index, const uint8_t key[16]);
 int coordinator_challenge(struct coordinator *c, const uint8_t eui[8], uint64_t now);
 int coordinator_activate(struct coordinator *c, const uint8_t eui[8], uint8_t index, uint64_t now);

@@ -33,7 +33,8 @@ fn stop(why: &core::panic::PanicInfo) -> ! {
 /// Memory that is given out and never taken back: a node takes its own when it is opened, and no more.
 pub struct Heap<const N: usize> {
     octets: UnsafeCell<[u64; N]>,
-    used: AtomicUsize,
+    /// How many octets were given out. Who sets it to 0 takes all of them back, where nothing lies in them any more.
+    pub used: AtomicUsize,
 }
 
 impl<const N: usize> Heap<N> {
