@@ -1,27 +1,24 @@
 -- Two joinings that are done have another RAND_S each: along a run no value is done more often than it was given.
-use Rattle.std.proofs.Common.{◌≡◌, ◌≢◌, ℕ, suc, ◌≤◌, ◌<◌, ◌+◌, Bool, true, false, List, [], ◌∷◌, ◌++◌, length, Option, Some, None, Ok, refl, sym, ap, subst}
+use Rattle.std.proofs.Common.{◌≡◌, ◌≢◌, ℕ, suc, ◌≤◌, ◌<◌, ◌+◌, Bool, true, false, List, [], ◌∷◌, length, Option, Some, None, Ok, refl, sym, ap, subst}
 use Rattle.std.proofs.Common.{◌∙◌}
 use Rattle.std.proofs.Common.{arith}
 use Rattle.std.specs.Prelude.{All, AllPairs, if◌then◌else◌, slice_get, slice_index_or}
-use Rattle.std.proofs.lemmas.List.Elements.{All-cons, All-head, All-nil, All-tail}
+use Rattle.std.proofs.lemmas.List.Elements.{All-cons, All-nil}
 use Rattle.std.proofs.lemmas.List.Kept.{AllPairs-cons}
 use Rattle.std.proofs.lemmas.Option.{same_Some}
 use Rattle.std.proofs.lemmas.Slice.Eq.{bytes_eq-Decides}
 use Rattle.plc_base.specs.declared.key.RandomOctets.{RandomOctets}
 use Rattle.node_rules.specs.Ciphers.{network}
 use Rattle.line_flights.specs.Flights.{same_rand}
-use Rattle.line_rules.specs.Runs.{Entry, NoneForged, issued, one_of, takings}
-use Rattle.line_rules.specs.Worlds.{Issued, Pairing, Sending, World, start}
-use Rattle.line_laws.specs.Invariant.{HoldsAfterEach}
-use Rattle.line_laws.specs.Keyed.{Keyed}
+use Rattle.line_rules.specs.Runs.{Entry, one_of, takings}
+use Rattle.line_rules.specs.Worlds.{Pairing, World, start}
 use Rattle.line_laws.specs.Owed.{KeepsRanges}
 use Rattle.line_laws.proofs.AgreeTags.{rand_same}
 use Rattle.line_laws.proofs.FurtherSame.{line_step_any}
-use Rattle.line_laws.proofs.IssueRuns.{start_keyed}
 use Rattle.line_laws.proofs.LineRuns.{AreLawful, Lawful}
 use Rattle.run_laws.specs.JoiningsApart.{AreApart, RandomsDiffer, completions, random_in, randoms_given}
 use Rattle.run_laws.proofs.RandomCounts.{as_it_is, once, once_self, times, times_append}
-use Rattle.run_laws.proofs.RandomEvents.{Light, LightIn, done_of, held_by, line_light}
+use Rattle.run_laws.proofs.RandomEvents.{Light, LightIn, OthersAreMeters, done_of, held_by, line_light}
 
 -- # Lists
 
@@ -71,29 +68,25 @@ one_done v None = refl
 one_done v (Some p) = omega arith
 
 module _ (fits : KeepsRanges network) (v : RandomOctets) where
-  light_at : (w : World) (x : Entry) → Lawful network w x → (given : List Issued) → Keyed w given
-      → Light v w (times as_it_is v (random_in x.event)) (x.after, x.trace)
-  light_at w x l given k =
+  light_at : (w : World) (x : Entry) → Lawful network w x → OthersAreMeters w.nodes → Light v w (times as_it_is v (random_in x.event)) (x.after, x.trace)
+  light_at w x l others =
       let b = l.before in
       let is : LightIn v w (times as_it_is v (random_in x.event)) (Ok (x.after, x.trace)) =
       subst (LightIn v w (times as_it_is v (random_in x.event))) l.step
-      (line_light v network w b.ok.first k.roles x.event _ (line_step_any network fits w b.ok b.flown b.logs x.event l.says) l.says) in
+      (line_light v network w b.ok.first others x.event _ (line_step_any network fits w b.ok b.flown b.logs x.event l.says) l.says) in
       is
 
-  module _ (all : List Sending) (home : ℕ → ℕ) where
-    few_done : (before : List Entry) (w : World) → Keyed w (issued before) → (entries : List Entry) → AreLawful network w entries
-        → HoldsAfterEach all home before entries → NoneForged entries
-        → times rand_s_in v (completions entries) ≤ held_by v w.nodes + times as_it_is v (randoms_given entries)
-    few_done before w k [] lawful holds honest = omega arith
-    few_done before w k (x ∷ xs) lawful holds honest =
-        let held = holds (All-head (λ (y : Entry). y.trace.happenings.forged ≡ false) x xs honest) in
-        let light = (light_at w x lawful.0 (issued before) k).less in
-        let rest = few_done (before ++ x ∷ []) x.after held.0.keyed xs lawful.1 held.1
-        (All-tail (λ (y : Entry). y.trace.happenings.forged ≡ false) x xs honest) in
-        let done = times_append rand_s_in v (one_of x.trace.done) (completions xs) in
-        let one = one_done v x.trace.done in
-        let given = times_append as_it_is v (random_in x.event) (randoms_given xs) in
-        omega arith
+  few_done : (w : World) → OthersAreMeters w.nodes → (entries : List Entry) → AreLawful network w entries
+      → times rand_s_in v (completions entries) ≤ held_by v w.nodes + times as_it_is v (randoms_given entries)
+  few_done w others [] lawful = omega arith
+  few_done w others (x ∷ xs) lawful =
+      let h = light_at w x lawful.0 others in
+      let light = h.less in
+      let rest = few_done x.after h.others xs lawful.1 in
+      let done = times_append rand_s_in v (one_of x.trace.done) (completions xs) in
+      let one = one_done v x.trace.done in
+      let given = times_append as_it_is v (random_in x.event) (randoms_given xs) in
+      omega arith
 
 apart_of : (taken : List Pairing) (p q : Pairing) → p.agreed.rand_s ≢ q.agreed.rand_s → AreApart taken p q
 apart_of taken p q differ = record {
@@ -101,12 +94,12 @@ apart_of taken p q differ = record {
   takings = λ i j first second same. differ (ap (λ (r : Pairing). r.agreed.rand_s) (same_Some p q (sym first ∙ ap (slice_get taken) same ∙ second)));
 }
 
-pub each_is_own : (fits : KeepsRanges network) (all : List Sending) (home : ℕ → ℕ) (entries : List Entry) → AreLawful network start entries
-    → HoldsAfterEach all home [] entries → NoneForged entries → RandomsDiffer entries → AllPairs (AreApart (takings entries)) (completions entries)
+pub each_is_own : (fits : KeepsRanges network) (entries : List Entry) → AreLawful network start entries → RandomsDiffer entries
+    → AllPairs (AreApart (takings entries)) (completions entries)
 unfolding rand_s_in
-each_is_own fits all home entries lawful holds honest differ =
+each_is_own fits entries lawful differ =
     let apart = once_apart rand_s_in (completions entries) (λ v.
-    let less = few_done fits v all home [] start start_keyed entries lawful holds honest in
+    let less = few_done fits v start tt entries lawful in
     let once_given = differ_once v (randoms_given entries) differ in
     omega arith) in
     λ i j d lt within. apart_of (takings entries) _ _ (apart i j d lt within)

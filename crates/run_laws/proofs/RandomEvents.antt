@@ -2,7 +2,8 @@
 use Rattle.std.proofs.Common.{◌≡◌, ◌≢◌, ⊎_elim, ℕ, zero, suc, ◌+◌, ◌-◌, ◌≤◌, Bool, true, false, List, [], ◌∷◌, ◌++◌, length, Option, Some, None, Result, Ok}
 use Rattle.std.proofs.Common.{Err}
 use Rattle.std.proofs.Common.{refl, sym, ap, subst, ◌∙◌, arith}
-use Rattle.std.specs.Prelude.{if◌then◌else◌, is_some, map, nat_lt, slice_get, slice_set, ◌==◌}
+use Rattle.std.proofs.lemmas.List.Elements.{All-map, All-nil, All-push, All-set}
+use Rattle.std.specs.Prelude.{All, if◌then◌else◌, is_some, map, nat_lt, slice_get, slice_set, ◌==◌}
 use Rattle.std.specs.Option.{option_map_or}
 use Rattle.std.proofs.lemmas.Bool.{eqb-false}
 use Rattle.std.proofs.lemmas.Option.{none-some, same_Some}
@@ -79,6 +80,7 @@ use Rattle.line_laws.proofs.StepKinds.{step_is}
 use Rattle.line_laws.proofs.StepKinds.{Fails, Makes, Rests, Shows, Acts, BreaksLink, SendsFrom, AllowsMeter, Sets, SetsTwo, Provides, TurnsDown, Hears}
 use Rattle.line_laws.proofs.StepKinds.{Loses, Ticks, Restarts, Cuts}
 use Rattle.line_laws.proofs.TracesRight.{false_true}
+use Rattle.line_laws.proofs.Worlds.{at_place}
 use Rattle.run_laws.specs.JoiningsApart.{random_in}
 use Rattle.run_laws.proofs.RandomCounts.{Lighter, activate_lighter, allow_lighter, as_it_is, challenge_lighter, choose_lighter, depot_lighter, done_weight}
 use Rattle.run_laws.proofs.RandomCounts.{filter_less, hears_weigh, kick_lighter}
@@ -229,6 +231,19 @@ acts_role x halted plan = by_memory x.memory
     by_memory None = refl
     by_memory (Some m) = refl
 
+heard_role : (ciphers : Ciphers) (y : Node) (got : Accepted) (cost note now : ℕ) → (hearing_step ciphers y got cost note now).node.role ≡ y.role
+heard_role ciphers y got cost note now = by_role y.role
+  where
+    hears : Role → NodeStep Reception
+    hears Coordinator = answering coordinator_reception
+        (acts y (Err drops.Store) (λ m. coordinator_rules.hear_coordinator (record { eui = y.eui; ciphers = ciphers }) m got cost note now))
+    hears (Meter psk) = answering meter_reception (acts y (Err drops.Store) (λ m. meters.hear_meter (identity ciphers y psk) m got cost note now))
+
+    by_role : (role : Role) → (hears role).node.role ≡ y.role
+    by_role Coordinator =
+        acts_role y (Err drops.Store) (λ m. coordinator_rules.hear_coordinator (record { eui = y.eui; ciphers = ciphers }) m got cost note now)
+    by_role (Meter psk) = acts_role y (Err drops.Store) (λ m. meters.hear_meter (identity ciphers y psk) m got cost note now)
+
 undone : (r : Result MeterHeard Dropped) → (meter_reception r).done ≡ None
 undone (Ok (meter_heard.Station h)) = (station_took h).2
 undone (Ok meter_heard.Carried) = refl
@@ -272,7 +287,7 @@ module _ (v : RandomOctets) (ciphers : Ciphers) (y : Node) (got : Accepted) (cos
       by_role Coordinator is = absurd is
       by_role (Meter psk) is = undone (acts y (Err drops.Store) (λ m. meters.hear_meter (identity ciphers y psk) m got cost note now)).answer
 
--- # Events
+-- # Calls that are events
 
 -- the calls that are events by themselves
 abbrev is_asking : Event → Bool
@@ -295,18 +310,54 @@ asking_word reads event (OfTurn B number index) = refl
 asking_word reads event (OfOrder B number index) = refl
 asking_word reads event (OfKick B number) = refl
 
+-- # Roles
+
+-- node 0 alone may be the coordinator
+abbrev pub OthersAreMeters : List Node → Type 0
+OthersAreMeters [] = Unit {0}
+OthersAreMeters (c ∷ rest) = All (λ (x : Node). IsMeter x.role) rest
+
+is_other : (nodes : List Node) (n : ℕ) (x : Node) → OthersAreMeters nodes → n ≢ 0 → slice_get nodes n ≡ Some x → IsMeter x.role
+is_other [] n x all ne there = absurd (none-some x there)
+is_other (c ∷ rest) zero x all ne there = absurd (ne refl)
+is_other (c ∷ rest) (suc n) x all ne there = at_place (λ (y : Node). IsMeter y.role) rest n x there all
+
+set_others : (nodes : List Node) (number : ℕ) (x y : Node) → slice_get nodes number ≡ Some x → y.role ≡ x.role → OthersAreMeters nodes
+    → OthersAreMeters (slice_set nodes number y)
+set_others [] number x y there same all = tt
+set_others (c ∷ rest) zero x y there same all = all
+set_others (c ∷ rest) (suc number) x y there same all =
+    All-set (λ (z : Node). IsMeter z.role) rest number y
+    (subst IsMeter (sym same) (at_place (λ (z : Node). IsMeter z.role) rest number x there all)) all
+
+made_others : (w : World) (event : Event) (x : Node) → IsMade w event x → OthersAreMeters w.nodes → OthersAreMeters (w.nodes ++ x ∷ [])
+made_others w event x (OfCoordinator eui key none known long) all =
+    subst (λ (nodes : List Node). OthersAreMeters (nodes ++ x ∷ [])) (sym none) (All-nil (λ (y : Node). IsMeter y.role))
+made_others w event x (OfMeter eui psk some few new known long) all = by_nodes w.nodes all
+  where
+    by_nodes : (nodes : List Node) → OthersAreMeters nodes → OthersAreMeters (nodes ++ blank_node (Meter psk) eui ∷ [])
+    by_nodes [] all = All-nil (λ (y : Node). IsMeter y.role)
+    by_nodes (c ∷ rest) all = All-push (λ (y : Node). IsMeter y.role) rest (blank_node (Meter psk) eui) all tt
+
+ticked_others : (now : ℕ) (nodes : List Node) → OthersAreMeters nodes → OthersAreMeters (map (ticked now) nodes)
+ticked_others now [] all = tt
+ticked_others now (c ∷ rest) all = All-map (λ (y : Node). IsMeter y.role) (ticked now) rest all
+
+-- # Events
+
 -- What an event leaves: so often the value came to the coordinator in it.
 pub record Light (v : RandomOctets) (w : World) (more : ℕ) (r : World × Trace) : Type 0 where
   pub less : done_of v r.1.done + held_by v r.0.nodes ≤ held_by v w.nodes + more
+  pub others : OthersAreMeters r.0.nodes
 
 abbrev pub LightIn : RandomOctets → World → ℕ → Step → Type 0
 LightIn v w more (Ok r) = Light v w more r
 LightIn v w more (Err fault) = Unit {0}
 
 module _ (v : RandomOctets) (ciphers : Ciphers) (w : World) (first : (c : Node) → node_at w 0 ≡ Some c → c.role ≡ Coordinator)
-    (others : (n : ℕ) (x : Node) → n ≢ 0 → node_at w n ≡ Some x → IsMeter x.role) where
+    (all : OthersAreMeters w.nodes) where
   lighter_in : (more : ℕ) (s : Step) → LightIn v w 0 s → LightIn v w more s
-  lighter_in more (Ok r) h = let less = h.less in record { less = omega arith }
+  lighter_in more (Ok r) h = let less = h.less in record { less = omega arith; others = h.others }
   lighter_in more (Err fault) h = tt
 
   once_in : (more : ℕ) (s : Step) → LightIn v w more s → LightIn v w more (once_begun w s)
@@ -336,27 +387,27 @@ module _ (v : RandomOctets) (ciphers : Ciphers) (w : World) (first : (c : Node) 
   rested u t nodes none =
       let same : held_by v u.nodes ≡ held_by v w.nodes = ap (held_by v) nodes in
       let nothing_done : done_of v t.done ≡ 0 = ap (done_of v) none in
-      record { less = omega arith }
+      record { less = omega arith; others = subst OthersAreMeters (sym nodes) all }
 
   -- one node acts, and no joining is done
   acted : (more number : ℕ) (x y : Node) (u : World) (t : Trace) → node_at w number ≡ Some x → u.nodes ≡ slice_set w.nodes number y → t.done ≡ None
-      → (number ≡ 0 → held_of v y.memory ≤ held_of v x.memory + more) → Light v w more (u, t)
-  acted more number x y u t there nodes none less =
+      → y.role ≡ x.role → (number ≡ 0 → held_of v y.memory ≤ held_of v x.memory + more) → Light v w more (u, t)
+  acted more number x y u t there nodes none role less =
       let same : held_by v u.nodes ≡ held_by v (slice_set w.nodes number y) = ap (held_by v) nodes in
       let nothing_done : done_of v t.done ≡ 0 = ap (done_of v) none in
-      let all = set_holds v 0 more w.nodes number x y there (λ e. let l = less e in omega arith) (λ ne. omega arith) in
-      record { less = omega arith }
+      let each = set_holds v 0 more w.nodes number x y there (λ e. let l = less e in omega arith) (λ ne. omega arith) in
+      record { less = omega arith; others = subst OthersAreMeters (sym nodes) (set_others w.nodes number x y there role all) }
 
   -- one that is no heavier
   acted_light : (number : ℕ) (x y : Node) (u : World) (t : Trace) → node_at w number ≡ Some x → u.nodes ≡ slice_set w.nodes number y → t.done ≡ None
-      → held_of v y.memory ≤ held_of v x.memory → Light v w 0 (u, t)
-  acted_light number x y u t there nodes none light = acted 0 number x y u t there nodes none (λ e. omega arith)
+      → y.role ≡ x.role → held_of v y.memory ≤ held_of v x.memory → Light v w 0 (u, t)
+  acted_light number x y u t there nodes none role light = acted 0 number x y u t there nodes none role (λ e. omega arith)
 
-  outcome : (more number : ℕ) (x : Node) (d : NodeStep Answer) → node_at w number ≡ Some x
+  outcome : (more number : ℕ) (x : Node) (d : NodeStep Answer) → node_at w number ≡ Some x → d.node.role ≡ x.role
       → (number ≡ 0 → held_of v d.node.memory ≤ held_of v x.memory + more) → Light v w more (node_outcome ciphers w number d)
   unfolding world_after
-  outcome more number x d there less =
-      let r = node_outcome ciphers w number d in acted more number x d.node r.0 r.1 there refl refl less
+  outcome more number x d there role less =
+      let r = node_outcome ciphers w number d in acted more number x d.node r.0 r.1 there refl refl role less
 
   -- # Calls that are events by themselves
 
@@ -373,7 +424,8 @@ module _ (v : RandomOctets) (ciphers : Ciphers) (w : World) (first : (c : Node) 
   rand_light : (number : ℕ) (value : RandomOctets) → LightIn v w (times as_it_is v (random_in (events.RandomOctets number value))) (rand ciphers w number value)
   unfolding rand
   rand_light number value = once_in _ _ (at_node _ number _ (λ x there.
-      outcome _ number x (answering random_word (acts x (Err randoms.Halted) (λ m. give_random m value))) there (λ first_node.
+      outcome _ number x (answering random_word (acts x (Err randoms.Halted) (λ m. give_random m value))) there
+      (acts_role x (Err randoms.Halted) (λ m. give_random m value)) (λ first_node.
       let came : times as_it_is v (if number == 0 then value ∷ [] else []) ≡ times as_it_is v (value ∷ []) =
       ap (λ (n : ℕ). times as_it_is v (if n == 0 then value ∷ [] else [])) first_node in
       let less = acts_hold v (λ (r : Result (Unit {0}) RandomFault). 0) (times as_it_is v (value ∷ [])) x (Err randoms.Halted) (λ m. give_random m value) refl
@@ -386,7 +438,7 @@ module _ (v : RandomOctets) (ciphers : Ciphers) (w : World) (first : (c : Node) 
   joins_light number x (Some a) None ne there = rested _ (trace_of (happenings w answers.NoAddress)) refl refl
   joins_light number x (Some a) (Some psk) ne there =
       outcome 0 number x (answering join_word (acts x (Err joins.Halted) (λ m. meters.join (identity ciphers x psk) m a w.clock))) there
-      (λ e. absurd (ne e))
+      (acts_role x (Err joins.Halted) (λ m. meters.join (identity ciphers x psk) m a w.clock)) (λ e. absurd (ne e))
 
   join_light : (number agent : ℕ) → LightIn v w 0 (join ciphers w number agent)
   unfolding join
@@ -396,12 +448,13 @@ module _ (v : RandomOctets) (ciphers : Ciphers) (w : World) (first : (c : Node) 
   leave_light : (number : ℕ) → LightIn v w 0 (leave ciphers w number)
   unfolding leave
   leave_light number = once_in 0 _ (at_meter 0 number _ (λ ne x there.
-      outcome 0 number x (answering leave_word (acts x (Err leaves.Halted) meters.leave)) there (λ e. absurd (ne e))))
+      outcome 0 number x (answering leave_word (acts x (Err leaves.Halted) meters.leave)) there
+      (acts_role x (Err leaves.Halted) meters.leave) (λ e. absurd (ne e))))
 
   ordered_light : {A : Type 0} (c : Node) (answer : Answer) (order : Memory → Plan Memory (Result A CoordinatorRefusal)) → node_at w 0 ≡ Some c
       → ((m : Memory) → Lighter v m (order m)) → Light v w 0 (by_coordinator ciphers w c answer order)
   ordered_light c answer order there light = outcome 0 0 c (answering (ordered_word answer) (acts c (Err orders.Halted) order)) there
-      (λ e. let l = acts_light v c (Err orders.Halted) order (λ m here. light m) in omega arith)
+      (acts_role c (Err orders.Halted) order) (λ e. let l = acts_light v c (Err orders.Halted) order (λ m here. light m) in omega arith)
 
   rekeyed_light : (index : ℕ) (key : Key) → LightIn v w 0 (rekey ciphers w index key)
   unfolding rekey
@@ -452,12 +505,13 @@ module _ (v : RandomOctets) (ciphers : Ciphers) (w : World) (first : (c : Node) 
   unfolding world_after
   heard_light number x octets cost got there =
       let same = done_same d.answer.done in
-      let all = set_holds v (done_weight v d.answer.done) 0 w.nodes number x d.node there
+      let each = set_holds v (done_weight v d.answer.done) 0 w.nodes number x d.node there
       (λ e. let less = coordinator_holds v ciphers y got cost note w.clock (role ∙ first x (ap (slice_get w.nodes) (sym e) ∙ there)) in
       let accepted = accepted_light in omega arith)
       (λ ne. let none : done_weight v d.answer.done ≡ 0 =
-      ap (done_weight v) (meter_undone v ciphers y got cost note w.clock (subst IsMeter (sym role) (others number x ne there))) in omega arith) in
-      record { less = omega arith }
+      ap (done_weight v) (meter_undone v ciphers y got cost note w.clock (subst IsMeter (sym role) (is_other w.nodes number x all ne there))) in
+      omega arith) in
+      record { less = omega arith; others = set_others w.nodes number x d.node there (heard_role ciphers y got cost note w.clock ∙ role) all }
     where
       plan : Memory → Plan Memory (Result Accepted FrameRefusal)
       plan m = of_station m (accept m.station x.eui (arrived ciphers octets))
@@ -478,7 +532,7 @@ module _ (v : RandomOctets) (ciphers : Ciphers) (w : World) (first : (c : Node) 
       accepted_light = acts_light v x (Err frames.Halted) plan (λ m here. station_light v m (accept m.station x.eui (arrived ciphers octets)))
 
   sent_light : (from to : ℕ) (datagram : List ℕ) (tag : ℕ) (b : Bool) (r : World × Trace) → Light v w 0 r → Light v w 0 (sent_if w from to datagram tag b r)
-  sent_light from to datagram tag true r h = record { less = h.less }
+  sent_light from to datagram tag true r h = record { less = h.less; others = h.others }
   sent_light from to datagram tag false r h = h
 
   near_light : (x : Node) (to cost : ℕ) → held_of v (offered_near x to cost w.clock).node.memory ≤ held_of v x.memory
@@ -493,60 +547,79 @@ module _ (v : RandomOctets) (ciphers : Ciphers) (w : World) (first : (c : Node) 
       (λ e. let less = less_q e in omega arith) (λ ne. omega arith) in
       omega arith
 
+  near_role : (x : Node) (to cost : ℕ) → (offered_near x to cost w.clock).node.role ≡ x.role
+  near_role x to cost = acts_role x (Ok tt) (λ m. of_station m (calls.preset_near m.station to cost w.clock))
+
+  two_others : (a b : ℕ) (x y p q : Node) → node_at w a ≡ Some x → node_at w b ≡ Some y → b ≢ a → p.role ≡ x.role → q.role ≡ y.role
+      → OthersAreMeters (slice_set (slice_set w.nodes a p) b q)
+  two_others a b x y p q hx hy apart role_p role_q =
+      set_others (slice_set w.nodes a p) b y q (slice_get-set_other w.nodes a b p apart ∙ hy) role_q (set_others w.nodes a x p hx role_p all)
+
   old_light : (event : Event) (s : Step) → IsStep ciphers w event s → is_asking event ≡ false → LightIn v w 0 s
   unfolding world_after
   old_light event s (Fails e fault) other = tt
-  old_light event s (Makes e x is) other = let less = pushed_holds v w.nodes x (made_holds v w e x is) in record { less = omega arith }
-  old_light event s (Rests e quiet) other = record { less = omega arith }
-  old_light event s (Shows number x) other = record { less = omega arith }
+  old_light event s (Makes e x is) other = let less = pushed_holds v w.nodes x (made_holds v w e x is) in
+      record { less = omega arith; others = made_others w e x is all }
+  old_light event s (Rests e quiet) other = record { less = omega arith; others = all }
+  old_light event s (Shows number x) other = record { less = omega arith; others = all }
   old_light event s (Acts e number x A halted plan reads there call word asked) other = absurd (false_true (sym other ∙ asking_word reads e word))
   old_light event s (BreaksLink number next x a there call) other =
       let plan : Memory → Plan Memory Answer = λ m. changing answers.Broken (with_station (calls.broke a m.station) m) in
       let r = node_outcome ciphers w number (acts x answers.Halted plan) in
-      acted_light number x (acts x answers.Halted plan).node r.0 r.1 there refl refl (acts_light v x answers.Halted plan
+      acted_light number x (acts x answers.Halted plan).node r.0 r.1 there refl refl (acts_role x answers.Halted plan) (acts_light v x answers.Halted plan
       (λ m here. rested_light v m (calls.broke a m.station) answers.Broken answers.Broken))
   old_light event s (SendsFrom from to datagram x a there call target) other =
       let plan : Memory → Plan Memory (Result SentHow SendRefusal) = λ m. of_station m (calls.send m.station a datagram (w.sends + 1) w.clock) in
       let d = acts x (Err sends.Halted) plan in
       let r = node_outcome ciphers w from (answering sent_word d) in
       sent_light from to datagram (tag_of x) (is_taken (sent_word d.answer)) r (acted_light from x d.node r.0 r.1 there refl refl
+      (acts_role x (Err sends.Halted) plan)
       (acts_light v x (Err sends.Halted) plan (λ m here. station_light v m (calls.send m.station a datagram (w.sends + 1) w.clock))))
   old_light event s (AllowsMeter number y c psk there call meter) other =
       let d = acts c (Err orders.Halted) (λ m. coordinator_rules.allow m y.eui psk) in
       let r = allowed ciphers w number d in
-      acted_light 0 c d.node r.0 r.1 there refl refl
+      acted_light 0 c d.node r.0 r.1 there refl refl (acts_role c (Err orders.Halted) (λ m. coordinator_rules.allow m y.eui psk))
       (acts_light v c (Err orders.Halted) (λ m. coordinator_rules.allow m y.eui psk) (λ m here. allow_lighter v m y.eui psk))
   old_light event s (Sets e quiet number x plan there open_is is) other =
       let d = acts x (Ok tt) (λ m. of_station m (plan m.station)) in
       acted_light number x d.node (world_after ciphers (set_up w) number d) (trace_of (happenings w answers.Set)) there refl refl
+      (acts_role x (Ok tt) (λ m. of_station m (plan m.station)))
       (acts_light v x (Ok tt) (λ m. of_station m (plan m.station)) (λ m here. station_light v m (plan m.station)))
   old_light event s (SetsTwo e quiet a b cost x y p q hx hy apart open_is one two fresh near) other =
       let less = two_lighter a b x y (offered_near x q cost w.clock).node (offered_near y p cost w.clock).node hx hy apart (near_light x q cost)
       (λ e. near_light y p cost) in
-      record { less = omega arith }
+      record { less = omega arith; others = two_others a b x y _ _ hx hy apart (near_role x q cost) (near_role y p cost) }
   old_light event s (Provides number x c psk g d ne open_is hx hc pair same is) other =
       let made : held_of v d.node.memory ≤ held_of v c.memory =
       subst (λ (u : NodeStep (Result Granted CoordinatorRefusal)). held_of v u.node.memory ≤ held_of v c.memory) (sym same)
       (acts_light v c (Err orders.Halted) (λ m. coordinator_rules.depot m x.eui psk) (λ m here. depot_lighter v m x.eui psk)) in
       let less = two_lighter 0 number c x d.node (acts x (Ok tt) (λ m. meters.provision m g)).node hc hx ne made (λ e. absurd (ne e)) in
-      record { less = omega arith }
+      let role : d.node.role ≡ c.role = subst (λ (u : NodeStep (Result Granted CoordinatorRefusal)). u.node.role ≡ c.role) (sym same)
+      (acts_role c (Err orders.Halted) (λ m. coordinator_rules.depot m x.eui psk)) in
+      record {
+        less = omega arith;
+        others =
+            two_others 0 number c x d.node (acts x (Ok tt) (λ m. meters.provision m g)).node hc hx ne role (acts_role x (Ok tt) (λ m. meters.provision m g));
+      }
   old_light event s (TurnsDown e number x octets reason d there says comes same is) other =
       let plan : Memory → Plan Memory (Result Accepted FrameRefusal) = λ m. of_station m (accept m.station x.eui (arrived ciphers octets)) in
       acted_light number x d.node (world_after ciphers (running_world w) number d) (trace_of (happenings w (frame_word reason))) there refl refl
+      (subst (λ (u : NodeStep (Result Accepted FrameRefusal)). u.node.role ≡ x.role) (sym same) (acts_role x (Err frames.Halted) plan))
       (subst (λ (u : NodeStep (Result Accepted FrameRefusal)). held_of v u.node.memory ≤ held_of v x.memory) (sym same)
       (acts_light v x (Err frames.Halted) plan (λ m here. station_light v m (accept m.station x.eui (arrived ciphers octets)))))
   old_light event s (Hears e number x octets cost got there says comes low is) other = heard_light number x octets cost got there
-  old_light event s (Loses number f there) other = record { less = omega arith }
+  old_light event s (Loses number f there) other = record { less = omega arith; others = all }
   old_light event s (Ticks seconds) other =
-      let less = map_holds v (ticked (w.clock + seconds)) w.nodes (ticked_holds v (w.clock + seconds)) in record { less = omega arith }
+      let less = map_holds v (ticked (w.clock + seconds)) w.nodes (ticked_holds v (w.clock + seconds)) in
+      record { less = omega arith; others = ticked_others (w.clock + seconds) w.nodes all }
   old_light event s (Restarts number x there) other =
       let r = node_outcome ciphers w number (restarts x) in
       let none = restarted_holds v x.role x.store.records in
-      acted_light number x (restarts x).node r.0 r.1 there refl refl (omega arith)
+      acted_light number x (restarts x).node r.0 r.1 there refl refl refl (omega arith)
   old_light event s (Cuts number nth keeps_new x there) other =
       let y : Node = record x { store = record x.store { cut = Some (record { nth = nth; keeps_new = keeps_new }) } } in
       let r = node_outcome ciphers w number (stays y answers.Set) in
-      acted_light number x y r.0 r.1 there refl refl (omega arith)
+      acted_light number x y r.0 r.1 there refl refl refl (omega arith)
 
   step_light : (event : Event) → IsEvent event → LightIn v w (times as_it_is v (random_in event)) (step ciphers w event)
   step_light event says = by_kind (is_asking event) refl
@@ -566,19 +639,28 @@ module _ (v : RandomOctets) (ciphers : Ciphers) (w : World) (first : (c : Node) 
   moved_holds u z (Besides a on bs) = omega arith
   moved_holds u z (Turns a between b one rest) = let near = moved_holds u between one in let far = moved_holds between z rest in omega arith
 
+  moved_others : (u z : World) → Moves AnyUnits AnyDiscovery ciphers u z → OthersAreMeters u.nodes → OthersAreMeters z.nodes
+  unfolding world_after
+  moved_others u z (Stays a) before = before
+  moved_others u z (Carries a number x A halted does there is) before =
+      set_others u.nodes number x (acts x halted does).node there (acts_role x halted does) before
+  moved_others u z (Flies a number x frame there known) before = before
+  moved_others u z (Besides a on bs) before = before
+  moved_others u z (Turns a between b one rest) before = moved_others between z rest (moved_others u between one before)
+
   moved_after : (more : ℕ) (r : World × Trace) (u : World) (t : Trace) → Light v w more r → Moves AnyUnits AnyDiscovery ciphers r.0 u → t.done ≡ r.1.done
       → Light v w more (u, t)
   moved_after more r u t h moves same =
       let less = h.less in
       let far = moved_holds r.0 u moves in
       let done : done_of v t.done ≡ done_of v r.1.done = ap (done_of v) same in
-      record { less = omega arith }
+      record { less = omega arith; others = moved_others r.0 u moves h.others }
 
   pub line_light : (event : Event) (s : Step) → IsLineStepBy (OldStep ciphers w) AnyUnits AnyDiscovery ciphers w event s → IsEvent event
       → LightIn v w (times as_it_is v (random_in event)) s
   unfolding world_after
   line_light event s (Known e t old) says = of_old ciphers w e (LightIn v w (times as_it_is v (random_in e))) (λ fault. tt) (step_light e says) t old
-  line_light event s (Opens begun) says = record { less = omega arith }
+  line_light event s (Opens begun) says = record { less = omega arith; others = all }
   line_light event s (Anew e u t moves silent) says =
       lighter_in _ (Ok (u, t)) (moved_after 0 (running_world w, trace_of (happenings w answers.Set)) u t
       (rested (running_world w) (trace_of (happenings w answers.Set)) refl refl)
@@ -588,15 +670,15 @@ module _ (v : RandomOctets) (ciphers : Ciphers) (w : World) (first : (c : Node) 
   line_light event s (Unsends e r u t old ok runs moves same) says =
       let h = moved_after _ r u t (of_old ciphers w e (LightIn v w (times as_it_is v (random_in e))) (λ fault. tt) (step_light e says) (Ok r) old) moves
       same.done in
-      record { less = h.less }
+      record { less = h.less; others = h.others }
   line_light event s (Unbelieves e number x octets got there says comes is) own =
       let y : Node = (accepting ciphers x octets).node in
       let plan : Memory → Plan Memory (Result Accepted FrameRefusal) = λ m. of_station m (accept m.station x.eui (arrived ciphers octets)) in
       let r = unbelieved ciphers w number y octets got in
-      lighter_in _ (Ok r) (acted_light number x y r.0 r.1 there refl refl
+      lighter_in _ (Ok r) (acted_light number x y r.0 r.1 there refl refl (acts_role x (Err frames.Halted) plan)
       (acts_light v x (Err frames.Halted) plan (λ m here. station_light v m (accept m.station x.eui (arrived ciphers octets)))))
   line_light event s (Chooses number k x psk ne there e) says =
       let r = chooses_by ciphers w number x k (Some psk) in
       acted 0 number x
       (acts x (Err choices.Halted) (with_beside (beside_at w number) (λ y. choose_agent (identity ciphers x psk) y k w.clock))).node r.0 r.1 there refl refl
-      (λ e. absurd (ne e))
+      (acts_role x (Err choices.Halted) (with_beside (beside_at w number) (λ y. choose_agent (identity ciphers x psk) y k w.clock))) (λ e. absurd (ne e))

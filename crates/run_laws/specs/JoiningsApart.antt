@@ -5,7 +5,7 @@ use Rattle.plc_base.specs.declared.key.RandomOctets.{RandomOctets}
 use Rattle.line_events.specs.declared.event.Event.{Event}
 use Rattle.line_events.specs.declared.event.Event.TheVariants as events
 use Rattle.node_rules.specs.Ciphers.{network}
-use Rattle.line_rules.specs.Runs.{Entry, IsLineRun, NoneForged, all_of, one_of, takings}
+use Rattle.line_rules.specs.Runs.{Entry, IsLineRun, all_of, one_of, takings}
 use Rattle.line_rules.specs.Worlds.{Pairing}
 
 -- the random value that an event gives the coordinator
@@ -31,8 +31,7 @@ pub record AreApart (taken : List Pairing) (p q : Pairing) : Type 0 where
   pub values : p.agreed.rand_s ≢ q.agreed.rand_s
   pub takings : (i j : ℕ) → slice_get taken i ≡ Some p → slice_get taken j ≡ Some q → i ≢ j
 
--- so it is of every run of the network without a forged event
+-- so it is of every run of the network, forged or not
 abbrev pub EveryJoiningIsItsOwn : Type 0
 EveryJoiningIsItsOwn =
-    (entries : List Entry) → IsLineRun network entries → NoneForged entries → RandomsDiffer entries
-    → AllPairs (AreApart (takings entries)) (completions entries)
+    (entries : List Entry) → IsLineRun network entries → RandomsDiffer entries → AllPairs (AreApart (takings entries)) (completions entries)

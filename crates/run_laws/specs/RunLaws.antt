@@ -20,7 +20,7 @@ pub record IsLawful (entries : List Entry) : Type 0 where
   pub places : StayAtOnePlace [] [] start entries
   pub fates : NoneForged entries → HaveFates entries (last_world start entries)
   pub grants : AgreeOnGrantsAfter [] entries
-  pub own : NoneForged entries → RandomsDiffer entries → AllPairs (AreApart (takings entries)) (completions entries)
+  pub own : RandomsDiffer entries → AllPairs (AreApart (takings entries)) (completions entries)
   pub one : NoneForged entries → FatesAreAtOnePlace entries (last_world start entries)
 
 -- so it is of every run of the network

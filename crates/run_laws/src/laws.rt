@@ -125,13 +125,12 @@ pub fn every_joining_agrees_on_its_grant()
     network_keeps_ranges();
 }
 
-/// In every run of the network without a forged event, in which the coordinator is given no random value twice, two joinings that are done have another RAND_S
-/// each: so no joining that a meter took is done twice.
+/// In every run of the network in which the coordinator is given no random value twice, forged or not, over restarts and failed writes, two joinings that are
+/// done have another RAND_S each: so no joining that a meter took is done twice.
 pub fn every_joining_is_its_own()
     ensures { EveryJoiningIsItsOwn }
 {
     every_flight_is_octets();
-    every_run_holds_throughout();
     network_keeps_ranges();
 }
 
