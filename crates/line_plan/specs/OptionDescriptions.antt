@@ -1,5 +1,6 @@
 -- A description as a program reads it: from a source, with options that change it.
-use Rattle.std.specs.Prelude.{◌≡◌, ℕ, ◌<◌, List, [], ◌++◌, length, take, codes, Option, None, Some, Result, Ok, Err, String, string_bytes, IsUtf8}
+use Rattle.std.specs.Prelude.{◌≡◌, ℕ, ◌<◌, ◌==◌, List, [], ◌++◌, length, take, codes, if◌then◌else◌, Option, None, Some, Result, Ok, Err, String}
+use Rattle.std.specs.Prelude.{string_bytes, IsUtf8}
 use Rattle.std.specs.List.{slice_get}
 use Rattle.std.specs.Str.Lossy.{utf8_valid_len}
 use Rattle.std.specs.declared.alloc.Global.{Global}
@@ -14,7 +15,10 @@ use Rattle.plan_tables.specs.declared.fault.PlanFault.TheVariants as faults
 use Rattle.plan_tables.specs.declared.fault.TextPlace.{TextPlace}
 use Rattle.plan_tables.specs.Words.{cause_text, fault_text, place_text}
 use Rattle.text_signs.specs.Quotes.{quoted_text}
-use Rattle.plan_tables.specs.TextPlaces.{octet_place}
+use Rattle.plan_tables.specs.TextPlaces.{octet_place, place_of}
+use Rattle.plan_tables.specs.declared.fault.Section.TheVariants as sections
+use Rattle.plan_tables.specs.declared.keys.Key.TheVariants as keys
+use Rattle.plan_tables.specs.Keys.{key_word}
 use Rattle.line_plan.specs.declared.plan.Plan.{Plan}
 use Rattle.line_plan.specs.Descriptions.{IsPlanIn, IsCauseIn, IsFaultOf}
 use Rattle.line_plan.specs.declared.input.TheConstants.{MAX_DESCRIPTION}
@@ -24,6 +28,7 @@ use Rattle.line_plan.specs.declared.input.InputFault.{InputFault}
 use Rattle.line_plan.specs.declared.input.InputFault.TheVariants as inputs
 use Rattle.line_plan.specs.declared.options.OptionFault.{OptionFault}
 use Rattle.line_plan.specs.declared.options.OptionFault.TheVariants.{Form, NoValue, NoTable, Memory}
+use Rattle.line_plan.specs.declared.option_reading.Description.{Description}
 use Rattle.line_plan.specs.declared.option_reading.NoPlan.{NoPlan}
 use Rattle.line_plan.specs.declared.option_reading.NoPlan.TheVariants as answers
 use Rattle.line_plan.specs.Options.{with_options}
@@ -79,11 +84,16 @@ pub record IsPlanWith (text : List ℕ) (options : List (String Global)) (plan :
   pub right : IsPlanIn members alone
   pub planned : IsPlanBy members options plan
 
--- The text that a source gave, with options, gives the plan.
-pub record IsDescribed (old new : SourceState) (options : List (String Global)) (plan : Plan) : Type 0 where
+-- where the text has the table of the place, or a key of it; once options have changed a description, places say nothing of its text
+abbrev pub table_place : List ℕ → List (String Global) → Option TextPlace
+table_place text options = if length options == 0 then Some (place_of text sections.Top (key_word keys.Place)) else None
+
+-- The text that a source gave, with options, gives the plan, and has the table of the place where it is said.
+pub record IsDescribed (old new : SourceState) (options : List (String Global)) (it : Description) : Type 0 where
   pub text : List ℕ
   pub given : GivesText old new text
-  pub planned : IsPlanWith text options plan
+  pub planned : IsPlanWith text options it.plan
+  pub placed : it.place ≡ table_place text options
 
 -- # What is wrong, as a line
 

@@ -3,16 +3,25 @@ ghost use Rattle.std.specs.Prelude.{◌≡◌, IfOk, IfErr, string_bytes};
 ghost use Rattle.toml.specs.View.{table_view};
 ghost use Rattle.line_plan.specs.Descriptions.{IsPlanOf};
 ghost use Rattle.line_plan.specs.OptionDescriptions.{IsPlanBy, IsPlanWith, IsDescribed, IsBadBy, IsBadWith, IsRefused, IsBadText, IsFaultLine, IsOptionLine};
-ghost use Rattle.line_plan.specs.OptionDescriptions.{long_line, no_text_line, cause_line, word_at, quoted_at, no_plan};
+ghost use Rattle.line_plan.specs.OptionDescriptions.{long_line, no_text_line, cause_line, word_at, quoted_at, no_plan, table_place};
 
 use crate::Plan;
 use crate::input::{InputFault, read_text};
 use crate::options::{OptionFault, with_options};
-use plan_tables::{Cause, PlanFault, TextPlace};
+use plan_tables::{Cause, Key, PlanFault, Section, TextPlace, place_of};
 use plc_base::Source;
 use std::alloc::{AllocError, Global};
 use text_signs::quoted;
 use toml::Table;
+
+/// What a description says.
+#[derive(Drop)]
+pub struct Description {
+    /// The plan, as options change it.
+    pub plan: Plan,
+    /// Where the text has the table of the place, or a key of it. None with options: once they have changed a description, places say nothing of its text.
+    pub place: Option<TextPlace>,
+}
 
 /// Why there is no plan.
 #[derive(Drop, Debug)]
@@ -146,15 +155,30 @@ fn plan_of(alloc: Global, text: &str, options: &[String]) -> Result<Plan, Wrong>
     }
 }
 
+// Where a text has the table of the place, unless options changed what it says.
+fn table_place(
+    alloc: Global,
+    text: &str,
+    options: &[String],
+) -> Result<Option<TextPlace>, AllocError>
+    ensures { IfOk result (λ place. place ≡ table_place text.now options.now) }
+{
+    if !options.is_empty() {
+        return Ok(None);
+    }
+    let place = place_of(alloc, text.as_bytes(), Section::Top, Key::Place.word())?;
+    Ok(Some(place))
+}
+
 /// Reads the description that a source gives, and answers its plan with the values that options give: pairs of `--set` and `KEY=VALUE`, or `--seed` and a
 /// number.
 pub fn read_plan<S: Source>(
     alloc: Global,
     source: &mut S,
     options: &[String],
-) -> Result<Plan, NoPlan>
+) -> Result<Description, NoPlan>
     // The text that the source gave is right by itself. Its members, as the options change them, give the plan.
-    ensures plan { IfOk result (λ plan. IsDescribed (S.state source.old) (S.state source.new) options.now plan) }
+    ensures plan { IfOk result (λ it. IsDescribed (S.state source.old) (S.state source.new) options.now it) }
     // A line says what is wrong first, and a fault of reading comes only where the source failed.
     ensures refused { IfErr result (λ it. IsRefused (S.state source.old) (S.state source.new) options.now it) }
 {
@@ -165,8 +189,12 @@ pub fn read_plan<S: Source>(
         Err(InputFault::Long(place)) => return Err(no_plan(long_text(alloc, place))),
         Err(InputFault::Text(place)) => return Err(no_plan(no_text(alloc, place))),
     };
-    match plan_of(alloc, text.as_str(), options) {
-        Ok(plan) => Ok(plan),
-        Err(wrong) => Err(no_plan(wrong)),
+    let plan = match plan_of(alloc, text.as_str(), options) {
+        Ok(plan) => plan,
+        Err(wrong) => return Err(no_plan(wrong)),
+    };
+    match table_place(alloc, text.as_str(), options) {
+        Ok(place) => Ok(Description { plan, place }),
+        Err(AllocError) => Err(NoPlan::Memory),
     }
 }

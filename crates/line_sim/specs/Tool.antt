@@ -1,10 +1,13 @@
 -- What the program's call says.
-use Rattle.std.specs.Prelude.{◌≡◌, ◌≤◌, ℕ, Bool, true, not, List, [], ◌∷◌, length, String, codes, string_bytes, bytes_eq, IsUtf8}
+use Rattle.std.specs.Prelude.{◌≡◌, ◌≤◌, ℕ, Bool, true, not, List, [], ◌∷◌, ◌++◌, length, String, codes, string_bytes, bytes_eq, IsUtf8}
 use Rattle.std.specs.Prelude.{if◌then◌else◌, nat_lt, Option, Some, None, All, AllPairs}
 use Rattle.std.specs.Option.{option_and_then}
 use Rattle.std.specs.declared.alloc.Global.{Global}
 use Rattle.plc_base.specs.Streams.{SourceState, SinkState, SourceRose}
+use Rattle.plan_tables.specs.declared.fault.TextPlace.{TextPlace}
+use Rattle.plan_tables.specs.Words.{place_text}
 use Rattle.line_plan.specs.declared.plan.Plan.{Plan}
+use Rattle.line_plan.specs.declared.option_reading.Description.{Description}
 use Rattle.line_plan.specs.Options.{are_options}
 use Rattle.line_plan.specs.OptionDescriptions.{IsDescribed, IsBad}
 use Rattle.line_rules.specs.Worlds.{World}
@@ -73,8 +76,11 @@ asked_of command = record { wanted = command.wanted; options = command.options.n
 abbrev pub usage_text : List ℕ
 usage_text = codes "usage: line_sim run | measure | links [--seed N] [--set KEY=VALUE]..\n"
 
-abbrev pub apart_text : List ℕ
-apart_text = codes "bad description: in 1000 draws of the place no path led to every meter; raise reach\n"
+-- that in no place that was drawn a path leads to every meter, with the place of the table that asks for it, unless options changed the description
+abbrev pub apart_text : Option TextPlace → List ℕ
+apart_text (Some place) =
+    codes "bad description: " ++ place_text place ++ codes ": in 1000 draws of the place no path led to every meter; raise reach\n"
+apart_text None = codes "bad description with these options: in 1000 draws of the place no path led to every meter; raise reach\n"
 
 -- # What is written
 
@@ -104,34 +110,38 @@ pub record IsOnlyFirst (plan : Plan) (first : Simulated Recorded) : Type 0 where
   pub is_first : IsFirst plan new_recorder first
   pub only : (other : Simulated Recorded) → IsFirst plan new_recorder other → other ≡ first
 
+-- What became of a plan for which no place was drawn: the line that says so was written, with the place of the table, or there was no memory for it.
+pub data SaysApart (place : Option TextPlace) (sink0 sink1 : SinkState) (result : Status) : Type 0 where
+  Said : WritesText (apart_text place) status.BadScript sink0 sink1 result → SaysApart place sink0 sink1 result
+  Unsaid : result ≡ status.Memory → sink1 ≡ sink0 → SaysApart place sink0 sink1 result
+
 -- What became of a plan: what was asked for was written of the one run of its one simulation, or the line that says why there is none; or nothing was.
-pub data Ends (mode : Mode) (injects : Bool) (plan : Plan) (sink0 sink1 : SinkState) (result : Status) : Type 0 where
+pub data Ends (mode : Mode) (injects : Bool) (plan : Plan) (place : Option TextPlace) (sink0 sink1 : SinkState) (result : Status) : Type 0 where
   Simulates : (first : Simulated Recorded) → IsOnlyFirst plan first
-      → EndsRun mode injects (whole_run (world_recorder injects) first) sink0 sink1 result → Ends mode injects plan sink0 sink1 result
-  Apart : IsApart plan.seed plan.place plan.place.kind → WritesText apart_text status.BadScript sink0 sink1 result
-      → Ends mode injects plan sink0 sink1 result
-  OutOfMemory : result ≡ status.Memory → sink1 ≡ sink0 → Ends mode injects plan sink0 sink1 result
+      → EndsRun mode injects (whole_run (world_recorder injects) first) sink0 sink1 result → Ends mode injects plan place sink0 sink1 result
+  Apart : IsApart plan.seed plan.place plan.place.kind → SaysApart place sink0 sink1 result → Ends mode injects plan place sink0 sink1 result
+  OutOfMemory : result ≡ status.Memory → sink1 ≡ sink0 → Ends mode injects plan place sink0 sink1 result
 
 -- What became of a plan: where it describes no attacker, no line of the script injects octets.
-abbrev pub EndsPlan : Mode → Plan → SinkState → SinkState → Status → Type 0
-EndsPlan mode plan sink0 sink1 result = Ends mode (has_attackers plan.incidents) plan sink0 sink1 result
+abbrev pub EndsPlan : Mode → Plan → Option TextPlace → SinkState → SinkState → Status → Type 0
+EndsPlan mode plan place sink0 sink1 result = Ends mode (has_attackers plan.incidents) plan place sink0 sink1 result
 
 -- What became of a plan whose links were asked for: those of the place of its run were written, or the line that says why it has none; or nothing was.
-pub data ShowsLinks (plan : Plan) (sink0 sink1 : SinkState) (result : Status) : Type 0 where
+pub data ShowsLinks (plan : Plan) (place : Option TextPlace) (sink0 sink1 : SinkState) (result : Status) : Type 0 where
   Shows : (rows : List (List Link)) → IsPlaceOf plan.seed plan.place plan.place.kind rows
-      → WritesText (links_text rows (nodes_of plan.place)) status.Fine sink0 sink1 result → ShowsLinks plan sink0 sink1 result
-  NoPlace : IsApart plan.seed plan.place plan.place.kind → WritesText apart_text status.BadScript sink0 sink1 result → ShowsLinks plan sink0 sink1 result
-  NoRoom : result ≡ status.Memory → sink1 ≡ sink0 → ShowsLinks plan sink0 sink1 result
+      → WritesText (links_text rows (nodes_of plan.place)) status.Fine sink0 sink1 result → ShowsLinks plan place sink0 sink1 result
+  NoPlace : IsApart plan.seed plan.place plan.place.kind → SaysApart place sink0 sink1 result → ShowsLinks plan place sink0 sink1 result
+  NoRoom : result ≡ status.Memory → sink1 ≡ sink0 → ShowsLinks plan place sink0 sink1 result
 
 -- What became of a plan, by what was asked for.
-abbrev pub EndsWanted : Wanted → Plan → SinkState → SinkState → Status → Type 0
-EndsWanted (OfRun mode) plan sink0 sink1 result = EndsPlan mode plan sink0 sink1 result
-EndsWanted Links plan sink0 sink1 result = ShowsLinks plan sink0 sink1 result
+abbrev pub EndsWanted : Wanted → Plan → Option TextPlace → SinkState → SinkState → Status → Type 0
+EndsWanted (OfRun mode) plan place sink0 sink1 result = EndsPlan mode plan place sink0 sink1 result
+EndsWanted Links plan place sink0 sink1 result = ShowsLinks plan place sink0 sink1 result
 
 -- What became of a call that asks for a script, counts or links, with these options.
 pub data Runs (wanted : Wanted) (options : List (String Global)) (source0 source1 : SourceState) (sink0 sink1 : SinkState) (result : Status) : Type 0 where
   -- the text that the source gave is a description, and with the options it gives the plan of the line
-  Described : (plan : Plan) → IsDescribed source0 source1 options plan → EndsWanted wanted plan sink0 sink1 result
+  Described : (it : Description) → IsDescribed source0 source1 options it → EndsWanted wanted it.plan it.place sink0 sink1 result
       → Runs wanted options source0 source1 sink0 sink1 result
   -- the description or an option is bad, and the line that says what is wrong was written, with the status of a bad description
   Bad : (line : List ℕ) → IsBad source0 source1 options line → WritesText line status.BadScript sink0 sink1 result

@@ -2,7 +2,7 @@ use Rattle.line_sim.specs.Tool.{Described, Bad}
 use Rattle.line_sim.proofs.tool.simulate.Goals as goal
 
 pub returns-in-Ok : goal.returns-in-Ok
-returns-in-Ok g c = Described c.in-Ok.plan c.in-Ok.ensures.plan c.write_wanted.ensures
+returns-in-Ok g c = Described c.in-Ok.it c.in-Ok.ensures.plan c.write_wanted.ensures
 
 pub returns-in-Err-Bad : goal.returns-in-Err-Bad
 returns-in-Err-Bad g c =

@@ -24,12 +24,13 @@ fn has_the_values_of_options() {
     let mut source = MemSource::new(octets, 7, Vec::new(alloc));
     let options = words(alloc, &["--set", "place.meters=5", "--seed", "9"])?;
     assert!(rt; are_options(options.as_slice()));
-    let Ok(plan) = read_plan(alloc, &mut source, options.as_slice()) else {
+    let Ok(described) = read_plan(alloc, &mut source, options.as_slice()) else {
         assert!(rt; false);
         return Ok(());
     };
-    assert_eq!(rt; plan.place.meters(), 5);
-    assert_eq!(rt; plan.seed, 9);
+    assert_eq!(rt; described.plan.place.meters(), 5);
+    assert_eq!(rt; described.plan.seed, 9);
+    assert!(rt; described.place.is_none());
     Ok(())
 })
 }
