@@ -3,6 +3,7 @@ use Rattle.std.proofs.Common.{◌≡◌, ℕ, ◌≤◌, Bool, true, false, leng
 use Rattle.std.specs.Prelude.{IfSome, IsSome, if◌then◌else◌}
 use Rattle.plc_base.specs.declared.keeper.Cut.{Cut}
 use Rattle.plc_base.specs.declared.out_frame.Out.{Out}
+use Rattle.plc_base.specs.Keeper.{Records}
 use Rattle.store_tables.specs.Writes.{Writes, write}
 use Rattle.node_rules.specs.Plans.{Plan, Outcome, carry_out, outcome_of, finished, halted}
 use Rattle.node_rules.specs.States.{State}

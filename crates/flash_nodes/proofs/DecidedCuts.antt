@@ -1,11 +1,12 @@
 -- The loss of power that an opening decides for some puts.
-use Rattle.std.proofs.Common.{◌≡◌, ◌⊎◌, inl, inr, ℕ, suc, ◌≤◌, Bool, true, false, List, [], ◌∷◌, length, Option, Some, None, refl, sym, ap, ◌∙◌, subst, arith}
-use Rattle.std.specs.Prelude.{IfSome}
+use Rattle.std.proofs.Common.{◌≡◌, ◌⊎◌, inl, inr, ℕ, suc, ◌+◌, ◌-◌, ◌≤◌, Bool, true, false, List, [], ◌∷◌, length, refl, sym, ap, ◌∙◌, subst, arith}
+use Rattle.std.proofs.Common.{Option, Some, None}
+use Rattle.std.specs.Prelude.{IfSome, nat_lt}
+use Rattle.std.proofs.lemmas.Bool.Decides.{nat_tests}
 use Rattle.std.specs.FinMap.{insert}
 use Rattle.plc_base.specs.declared.keeper.Cut.{Cut}
 use Rattle.plc_base.specs.Keeper.{Records, Store, Write, pending_records}
 use Rattle.store_tables.specs.Writes.{Writes, Written, write}
-use Rattle.store_tables.proofs.WritesLemmas.{later, later_writes, later_comes}
 use Rattle.flash_nodes.specs.Openings.{IsSettled, MayBeFound}
 
 -- Under this loss of power the puts end as they did, and leave these records.
@@ -21,6 +22,25 @@ pub record Decides (s : Store) (ws : List Write) (done : Bool) (found : Records)
 pub found_settled : (s : Store) (found : Records) → IsSettled s → MayBeFound s found → found ≡ s.records
 found_settled s found settled (inl e) = e
 found_settled s found settled (inr e) = e ∙ settled
+
+-- the loss of power that comes one put later
+later : Option Cut → Option Cut
+later None = None
+later (Some c) = Some (record c { nth = c.nth + 1 })
+
+later_writes : (w : Write) (ws : List Write) (cut : Option Cut) (records : Records) → IfSome cut (λ c. 1 ≤ c.nth)
+    → write (w ∷ ws) (later cut) records ≡ write ws cut (insert records w.slot w.octets)
+unfolding later
+later_writes w ws None records h = refl
+later_writes w ws (Some c) records h =
+    let passes : nat_lt 1 (c.nth + 1) ≡ true = grind (arith, nat_tests) in
+    let before : c.nth + 1 - 1 ≡ c.nth = omega arith in
+    rw passes (ap (λ k. write ws (Some (record { nth = k; keeps_new = c.keeps_new })) (insert records w.slot w.octets)) before)
+
+later_comes : (cut : Option Cut) → IfSome cut (λ c. 1 ≤ c.nth) → IfSome (later cut) (λ c. 1 ≤ c.nth)
+unfolding later
+later_comes None h = tt
+later_comes (Some c) h = omega arith
 
 later_within : (n : ℕ) (cut : Option Cut) → IfSome cut (λ c. c.nth ≤ n) → IfSome (later cut) (λ c. c.nth ≤ suc n)
 unfolding later
@@ -38,6 +58,7 @@ settled_after s t (w ∷ ws) settled (false, mid, p, u, stop) = absurd (no_false
 
 pub decided : (s t : Store) (ws : List Write) (done : Bool) (found : Records) → IsSettled s → Writes s ws done t → MayBeFound t found
     → (cut : Option Cut) × Decides s ws done found cut
+unfolding later
 decided s t [] done found settled h may = (
   None,
   record {

@@ -25,7 +25,7 @@ has_some None m e = absurd (no e)
   where
     no : None ≡ Some m → ⊥
     no e = cc
-has_some (Some n) m e = tt
+has_some (Some n) m e = refl
 
 -- a node with a memory carries out the rule over it
 called_is : {A : Type 0} (x : Node) (cut : Option Cut) (answer : A) (rule : Memory → Plan Memory A) (m : Memory) → x.memory ≡ Some m
