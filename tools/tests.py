@@ -258,6 +258,14 @@ class Program(unittest.TestCase):
             done = subprocess.run(["./line_sim", "measure", *words], stdout=subprocess.PIPE, **how)
             self.assertRegex(done.stderr, r"^line_sim: status 7: the run was full before its time \(")
 
+    def test_without_the_toolchain_proving_says_what_it_needs(self):
+        how = {"cwd": TOP, "env": {**os.environ, "PATH": "/usr/bin:/bin"}, "capture_output": True, "text": True, "check": False}
+        if shutil.which("rt", path=how["env"]["PATH"]) or os.path.exists(f"{TOP}/crates/line_replay/out/line_replay"):
+            self.skipTest("the toolchain is there, or a proved program")
+        done = subprocess.run(["./line_replay", "--prove"], **how)
+        self.assertEqual((done.returncode, done.stdout, done.stderr.count("\n")), (70, "", 1), done.stderr)
+        self.assertIn("proving needs rt, the command of the toolchain", done.stderr)
+
     def test_a_signal_reaches_the_program(self):
         with subprocess.Popen([f"{TOP}/line_replay", "replay"], stdin=subprocess.PIPE, stdout=subprocess.PIPE, stderr=subprocess.PIPE) as tool:
             tool.stdin.write(b"coordinator 0000000000000001 000102030405060708090a0b0c0d0e0f\n")
