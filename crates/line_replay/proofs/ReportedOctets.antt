@@ -12,7 +12,7 @@ use Rattle.script_runs.specs.declared.status.Status.{Status}
 use Rattle.script_runs.specs.declared.status.Status.TheVariants as status
 use Rattle.line_replay.specs.Tool.{IsReportOf}
 
-no_none : None ≡ Some [] → ⊥
+no_none : ◌≡◌ {A = Option (List ℕ)} None (Some []) → ⊥
 no_none is = cc
 
 same_some : (xs : List ℕ) → Some xs ≡ Some [] → xs ≡ []
