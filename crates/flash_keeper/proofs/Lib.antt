@@ -1,4 +1,6 @@
 mod CheckLemmas
+mod RecordLemmas
+mod FrontLemmas
 mod BankLemmas
 mod CellLemmas
 mod CopyLemmas

@@ -13,6 +13,10 @@ pub of_both : {T E P : Type 0} (r : Result T E) → OnOk r P → OnErr r P → P
 of_both (Ok x) p q = p
 of_both (Err e) p q = q
 
+pub on_ok : {T E P : Type 0} (r : Result T E) → P → OnOk r P
+on_ok (Ok x) p = p
+on_ok (Err e) p = tt
+
 pub on_err : {T E P : Type 0} (r : Result T E) → P → OnErr r P
 on_err (Ok x) p = tt
 on_err (Err e) p = p
@@ -33,10 +37,6 @@ pub both_err : {T E P Q R : Type 0} (r : Result T E) → (P → Q → R) → OnE
 both_err (Ok x) f p q = tt
 both_err (Err e) f p q = f p q
 
-pub three_err : {T E P Q R S : Type 0} (r : Result T E) → (P → Q → R → S) → OnErr r P → OnErr r Q → OnErr r R → OnErr r S
-three_err (Ok x) f p q s = tt
-three_err (Err e) f p q s = f p q s
-
 pub if_ok : {T E : Type 0} {P : T → Type 0} (r : Result T E) → ((x : T) → P x) → IfOk r P
 if_ok (Ok x) f = f x
 if_ok (Err e) f = tt
@@ -56,3 +56,7 @@ one_if_err (Err e) f p = f e p
 pub under : {T E A : Type 0} (P : T → Type 0) (r : Result T E) → (A → IfOk r P) → IfOk r (λ x. A → P x)
 under P (Ok x) f = f
 under P (Err e) f = tt
+
+pub four_err : {T E P Q R S U : Type 0} (r : Result T E) → (P → Q → R → S → U) → OnErr r P → OnErr r Q → OnErr r R → OnErr r S → OnErr r U
+four_err (Ok x) f p q s u = tt
+four_err (Err e) f p q s u = f p q s u

@@ -9,9 +9,9 @@ Word = Option ℕ
 abbrev pub erased : ℕ
 erased = 0xFFFFFFFFFFFFFFFF
 
--- the first word of a bank with a store of this layout: a name, and the number 3 of the layout
+-- the first word of a bank with a store of this layout: a name, and the number 4 of the layout
 abbrev pub head_word : ℕ
-head_word = 0x464C4B4545500003
+head_word = 0x464C4B4545500004
 
 -- the number of the layout that the first word of a bank names: the lowest 16 bits of it, where the others are those of a head
 abbrev pub layout_in : ℕ → Option ℕ

@@ -1,5 +1,7 @@
 pub mod Check
 pub mod Flash
+pub mod Records
+pub mod Front
 pub mod Log
 pub mod Wear
 pub mod Banks

@@ -1,65 +1,36 @@
--- The log in a bank: cells of words, what makes a cell count, and the records that the first cells stand for.
-use Rattle.std.specs.Prelude.{◌≡◌, ◌⊎◌, ℕ, zero, suc, ◌≤◌, ◌<◌, ◌+◌, ◌*◌, ◌/◌, ◌-◌, ◌%◌, ◌^◌, ◌==◌, Bool, true, false, not, ◌&&◌, ◌||◌, if◌then◌else◌, List}
-use Rattle.std.specs.Prelude.{[], ◌++◌, take, Some, None}
+-- The log in a bank: cells of words behind the front, what makes a cell count, and the records that the front and the first cells stand for.
+use Rattle.std.specs.Prelude.{◌≡◌, ◌⊎◌, ℕ, zero, suc, ◌≤◌, ◌<◌, ◌+◌, ◌*◌, ◌/◌, ◌-◌, ◌==◌, Bool, true, false, not, ◌&&◌, ◌||◌, if◌then◌else◌, List, Some}
 use Rattle.std.specs.FinMap.{insert, empty}
-use Rattle.byteorder.specs.Endian.{big_bytes}
 use Rattle.plc_base.specs.Keeper.{Records}
-use Rattle.flash_keeper.specs.Check.{check_of}
 use Rattle.flash_keeper.specs.Flash.{Word, Bank, erased}
+use Rattle.flash_keeper.specs.Records.{slot_at, octets_at, has_check, begun, IsReadable, IsWhole}
+use Rattle.flash_keeper.specs.Front.{front_slot, front_octets, front_records, HasFront, IsDecayedFront}
+use Rattle.flash_keeper.specs.declared.front.Front.{Front}
 
--- A bank begins with three words: its head, its generation, and the mark that makes it count. Then come cells of 12 words: the check and 65
--- times the slot and the length, 8 of octets, the close, which says that the cell never counts, the fence, which says that its record is whole,
--- and the mark, which makes it count.
-abbrev pub place : ℕ → ℕ
-place k = 3 + 12 * k
+-- A bank begins with four words: its head, its generation, the mark that makes it count, and the number of the records of its front. Then comes
+-- the front, and then cells of 12 words: the head of a record, 8 of its octets, the close, which says that the cell never counts, the fence, which
+-- says that the record is whole, and the mark, which makes it count.
+abbrev pub place : Front → ℕ → ℕ
+place front k = 4 + front.words + 12 * k
 
-abbrev pub close : ℕ → ℕ
-close k = 3 + 12 * k + 9
+abbrev pub close : Front → ℕ → ℕ
+close front k = 4 + front.words + 12 * k + 9
 
-abbrev pub fence : ℕ → ℕ
-fence k = 3 + 12 * k + 10
+abbrev pub fence : Front → ℕ → ℕ
+fence front k = 4 + front.words + 12 * k + 10
 
-abbrev pub mark : ℕ → ℕ
-mark k = 3 + 12 * k + 11
+abbrev pub mark : Front → ℕ → ℕ
+mark front k = 4 + front.words + 12 * k + 11
 
 -- how many cells a bank of this many words has
-abbrev pub room : ℕ → ℕ
-room size = (size - 3) / 12
+abbrev pub room : Front → ℕ → ℕ
+room front size = (size - (4 + front.words)) / 12
 
-abbrev pub value : Word → ℕ
-value (Some n) = n
-value None = 0
+abbrev pub cell_slot : Front → (ℕ → Word) → ℕ → ℕ
+cell_slot front words k = slot_at words (place front k)
 
--- 65 times the slot and the length, the lower half of the first word of a cell
-abbrev pub low_at : (ℕ → Word) → ℕ → ℕ
-low_at words k = value (words (place k)) % 0x100000000
-
-abbrev pub slot_at : (ℕ → Word) → ℕ → ℕ
-slot_at words k = low_at words k / 65
-
-abbrev pub length_at : (ℕ → Word) → ℕ → ℕ
-length_at words k = low_at words k % 65
-
--- the octets of the n words from a place on
-unfoldable pub octets_from : (ℕ → Word) → ℕ → ℕ → List ℕ
-octets_from words at zero = []
-octets_from words at (suc n) = octets_from words at n ++ big_bytes 8 (value (words (at + n)))
-
--- the octets of a cell, with those after its record, which are erased
-abbrev pub body_at : (ℕ → Word) → ℕ → List ℕ
-body_at words k = octets_from words (place k + 1) 8
-
-abbrev pub octets_at : (ℕ → Word) → ℕ → List ℕ
-octets_at words k = take (length_at words k) (body_at words k)
-
--- whether the check of a cell, the upper half of its first word, is that of its slot, its length and its octets
-abbrev pub has_check : (ℕ → Word) → ℕ → Bool
-has_check words k = value (words (place k)) / 0x100000000 == check_of (low_at words k) (body_at words k)
-
--- a word of which a program was begun
-abbrev pub begun : Word → Bool
-begun (Some n) = not (n == erased)
-begun None = true
+abbrev pub cell_octets : Front → (ℕ → Word) → ℕ → List ℕ
+cell_octets front words k = octets_at words (place front k) 8
 
 -- whether each of the first n words is erased
 unfoldable pub are_erased : (ℕ → Word) → ℕ → Bool
@@ -71,62 +42,51 @@ abbrev pub is_erased : Bank → Bool
 is_erased bank = not bank.torn && are_erased bank.words bank.size
 
 -- a cell counts where the program of its mark was begun
-abbrev pub counts : (ℕ → Word) → ℕ → Bool
-counts words k = begun (words (mark k))
+abbrev pub counts : Front → (ℕ → Word) → ℕ → Bool
+counts front words k = begun (words (mark front k))
 
-abbrev pub step : (ℕ → Word) → ℕ → Records → Records
-step words k records = if counts words k then insert records (slot_at words k) (octets_at words k) else records
+abbrev pub step : Front → (ℕ → Word) → ℕ → Records → Records
+step front words k records = if counts front words k then insert records (cell_slot front words k) (cell_octets front words k) else records
 
--- the records that the first k cells stand for
-unfoldable pub upto : (ℕ → Word) → ℕ → Records
-upto words zero = empty
-upto words (suc k) = step words k (upto words k)
-
--- a word that reads the same each time
-abbrev pub IsFirm : Word → Type 0
-IsFirm word = word ≡ Some (value word)
-
--- a cell of which slot, length and octets read the same each time
-pub record IsReadable (words : ℕ → Word) (k : ℕ) : Type 0 where
-  pub head : IsFirm (words (place k))
-  pub body : (i : ℕ) → i < 8 → IsFirm (words (place k + 1 + i))
+-- the records that the front and the first k cells stand for
+unfoldable pub upto : Front → (ℕ → Word) → ℕ → Records
+upto front words zero = front_records words front.count
+upto front words (suc k) = step front words k (upto front words k)
 
 -- a cell has a record that reads the same each time
-pub record IsWhole (words : ℕ → Word) (k : ℕ) : Type 0 where
-  pub readable : IsReadable words k
-  pub more : 0 < slot_at words k
-  pub slot : slot_at words k < 2 ^ 16
-  pub check : has_check words k ≡ true
-
--- a cell has this record of this slot
-pub record HasRecord (words : ℕ → Word) (k slot : ℕ) (octets : List ℕ) : Type 0 where
-  pub whole : IsWhole words k
-  pub slot_is : slot_at words k ≡ slot
-  pub octets_is : octets_at words k ≡ octets
+abbrev pub IsWholeCell : Front → (ℕ → Word) → ℕ → Type 0
+IsWholeCell front words k = IsWhole words (place front k) 8
 
 -- a cell that is certain: its mark is whole and so is its record, or it is closed and its mark was not begun
-abbrev pub IsCertain : (ℕ → Word) → ℕ → Type 0
-IsCertain words k = ((words (mark k) ≡ Some 0) × IsWhole words k) ⊎ ((words (mark k) ≡ Some erased) × (words (close k) ≡ Some 0))
+abbrev pub IsCertain : Front → (ℕ → Word) → ℕ → Type 0
+IsCertain front words k =
+    ((words (mark front k) ≡ Some 0) × IsWholeCell front words k) ⊎ ((words (mark front k) ≡ Some erased) × (words (close front k) ≡ Some 0))
 
 -- a cell that counts and of which bits have changed by themselves: its check is not that of its slot, its length and its octets
-pub record HasDecayed (words : ℕ → Word) (k : ℕ) : Type 0 where
-  pub mark : words (mark k) ≡ Some 0
-  pub readable : IsReadable words k
-  pub check : has_check words k ≡ false
+pub record IsDecayedCell (front : Front) (words : ℕ → Word) (k : ℕ) : Type 0 where
+  pub mark : words (mark front k) ≡ Some 0
+  pub readable : IsReadable words (place front k) 8
+  pub check : has_check words (place front k) 8 ≡ false
 
-abbrev pub AreCertain : (ℕ → Word) → ℕ → Type 0
-AreCertain words n = (k : ℕ) → k < n → IsCertain words k
+-- a bank of which bits have changed by themselves: its front has decayed, or behind a whole one a cell
+abbrev pub HasDecayed : Bank → Type 0
+HasDecayed bank = IsDecayedFront bank
+    ⊎ ((front : Front) × (k : ℕ) × HasFront bank front × (k < room front bank.size) × IsDecayedCell front bank.words k)
+
+abbrev pub AreCertain : Front → (ℕ → Word) → ℕ → Type 0
+AreCertain front words n = (k : ℕ) → k < n → IsCertain front words k
 
 -- What may be found in the cell that is written: neither its fence nor its mark was begun; or its record is whole, and its mark was not begun, or
 -- its fence is whole.
-abbrev pub IsOpen : (ℕ → Word) → ℕ → Type 0
-IsOpen words k =
-    ((words (fence k) ≡ Some erased) × (words (mark k) ≡ Some erased))
-    ⊎ (IsWhole words k × ((words (mark k) ≡ Some erased) ⊎ (words (fence k) ≡ Some 0)))
+abbrev pub IsOpen : Front → (ℕ → Word) → ℕ → Type 0
+IsOpen front words k =
+    ((words (fence front k) ≡ Some erased) × (words (mark front k) ≡ Some erased))
+    ⊎ (IsWholeCell front words k × ((words (mark front k) ≡ Some erased) ⊎ (words (fence front k) ≡ Some 0)))
 
 -- the records of the first n cells, with that of the next one if its fence was begun
-abbrev pub upto_fence : (ℕ → Word) → ℕ → Records
-upto_fence words n = if begun (words (fence n)) then insert (upto words n) (slot_at words n) (octets_at words n) else upto words n
+abbrev pub upto_fence : Front → (ℕ → Word) → ℕ → Records
+upto_fence front words n =
+    if begun (words (fence front n)) then insert (upto front words n) (cell_slot front words n) (cell_octets front words n) else upto front words n
 
 abbrev pub IsBlankFrom : (ℕ → Word) → ℕ → Type 0
 IsBlankFrom words at = (i : ℕ) → at ≤ i → words i ≡ Some erased
@@ -139,41 +99,52 @@ pub record Choice : Type 0 where
 abbrev pub IsOneOf : Choice → Records → Type 0
 IsOneOf choice records = (records ≡ choice.old) ⊎ (records ≡ choice.new)
 
--- The first n cells are certain and nothing was written after them.
-pub record IsSettled (bank : Bank) (n : ℕ) : Type 0 where
+-- The front is whole, the first n cells are certain and nothing was written after them.
+pub record IsSettled (front : Front) (bank : Bank) (n : ℕ) : Type 0 where
   pub firm : bank.torn ≡ false
-  pub certain : AreCertain bank.words n
-  pub blank : IsBlankFrom bank.words (place n)
-  pub within : n ≤ room bank.size
+  pub has_front : HasFront bank front
+  pub certain : AreCertain front bank.words n
+  pub blank : IsBlankFrom bank.words (place front n)
+  pub within : n ≤ room front bank.size
 
--- The first n cells are certain, one more may have been begun, and nothing was written after it.
-pub record IsLeft (bank : Bank) (n : ℕ) (choice : Choice) : Type 0 where
+-- The front is whole, the first n cells are certain, one more may have been begun, and nothing was written after it.
+pub record IsLeft (front : Front) (bank : Bank) (n : ℕ) (choice : Choice) : Type 0 where
   pub firm : bank.torn ≡ false
-  pub certain : AreCertain bank.words n
-  pub last : IsOpen bank.words n
-  pub blank : IsBlankFrom bank.words (place (n + 1))
-  pub within : (n < room bank.size) ⊎ ((n ≡ room bank.size) × IsBlankFrom bank.words (place n))
-  pub stands : IsOneOf choice (upto bank.words n)
-  pub stands_next : IsOneOf choice (upto_fence bank.words n)
+  pub has_front : HasFront bank front
+  pub certain : AreCertain front bank.words n
+  pub last : IsOpen front bank.words n
+  pub blank : IsBlankFrom bank.words (place front (n + 1))
+  pub within : (n < room front bank.size) ⊎ ((n ≡ room front bank.size) × IsBlankFrom bank.words (place front n))
+  pub stands : IsOneOf choice (upto front bank.words n)
+  pub stands_next : IsOneOf choice (upto_fence front bank.words n)
 
 -- nothing but words in these places has changed
 abbrev pub SameOutside : ℕ → ℕ → Bank → Bank → Type 0
 SameOutside from to old new = (i : ℕ) → (i < from) ⊎ (to ≤ i) → new.words i ≡ old.words i
 
 -- whether a cell counts and has this slot
-abbrev pub holds : (ℕ → Word) → ℕ → ℕ → Bool
-holds words k slot = counts words k && (slot_at words k == slot)
+abbrev pub holds : Front → (ℕ → Word) → ℕ → ℕ → Bool
+holds front words k slot = counts front words k && (cell_slot front words k == slot)
 
 -- whether one of the n cells from k on counts and has this slot
-unfoldable pub holds_later : (ℕ → Word) → ℕ → ℕ → ℕ → Bool
-holds_later words k zero slot = false
-holds_later words k (suc n) slot = holds words k slot || holds_later words (suc k) n slot
+unfoldable pub holds_later : Front → (ℕ → Word) → ℕ → ℕ → ℕ → Bool
+holds_later front words k zero slot = false
+holds_later front words k (suc n) slot = holds front words k slot || holds_later front words (suc k) n slot
 
--- the records of the first k cells whose slot none of the n cells has again
-unfoldable pub kept : (ℕ → Word) → ℕ → ℕ → Records
-kept words n zero = empty
-kept words n (suc k) = if counts words k && not (holds_later words (suc k) (n - suc k) (slot_at words k)) then insert (kept words n k) (slot_at words k)
-    (octets_at words k) else kept words n k
+-- the first i records of the front whose slot none of the first n cells has
+unfoldable pub front_kept : Front → (ℕ → Word) → ℕ → ℕ → Records
+front_kept front words n zero = empty
+front_kept front words n (suc i) =
+    if not (holds_later front words 0 n (front_slot words i)) then insert (front_kept front words n i) (front_slot words i) (front_octets words i)
+    else front_kept front words n i
+
+-- these of the whole front, and the records of the first k cells whose slot none of the n cells has again
+unfoldable pub kept : Front → (ℕ → Word) → ℕ → ℕ → Records
+kept front words n zero = front_kept front words n front.count
+kept front words n (suc k) =
+    if counts front words k && not (holds_later front words (suc k) (n - suc k) (cell_slot front words k)) then
+    insert (kept front words n k) (cell_slot front words k) (cell_octets front words k)
+    else kept front words n k
 
 -- nothing before this place has changed
 abbrev pub SameBelow : ℕ → Bank → Bank → Type 0
@@ -184,26 +155,26 @@ abbrev pub only : Records → Choice
 only records = record { old = records; new = records }
 
 -- the first cell that a reading shows as blank, where the first n are certain
-abbrev pub IsFoundBlank : Bank → ℕ → ℕ → Type 0
-IsFoundBlank bank n at = ((at ≡ n) × (n < room bank.size → bank.words (mark n) ≡ Some erased)) ⊎ (at ≡ n + 1)
+abbrev pub IsFoundBlank : Front → Bank → ℕ → ℕ → Type 0
+IsFoundBlank front bank n at = ((at ≡ n) × (n < room front bank.size → bank.words (mark front n) ≡ Some erased)) ⊎ (at ≡ n + 1)
 
 -- all cells before this one are certain, and it may be closed, since its mark was not begun
-abbrev pub IsClosable : Bank → ℕ → Choice → Type 0
-IsClosable bank at choice = IsLeft bank at choice × (at < room bank.size → bank.words (mark at) ≡ Some erased)
+abbrev pub IsClosable : Front → Bank → ℕ → Choice → Type 0
+IsClosable front bank at choice = IsLeft front bank at choice × (at < room front bank.size → bank.words (mark front at) ≡ Some erased)
 
 -- a cell of which the close was not begun, or the fence
-abbrev pub IsDecided : (ℕ → Word) → ℕ → Type 0
-IsDecided words k = (words (close k) ≡ Some erased) ⊎ (words (fence k) ≡ Some erased)
+abbrev pub IsDecided : Front → (ℕ → Word) → ℕ → Type 0
+IsDecided front words k = (words (close front k) ≡ Some erased) ⊎ (words (fence front k) ≡ Some erased)
 
 -- the last two cells of a log are such ones: then an opening settles it in place
-abbrev pub AreDecided : (ℕ → Word) → ℕ → Type 0
-AreDecided words n = IsDecided words n × ((k : ℕ) → k + 1 ≡ n → IsDecided words k)
+abbrev pub AreDecided : Front → (ℕ → Word) → ℕ → Type 0
+AreDecided front words n = IsDecided front words n × ((k : ℕ) → k + 1 ≡ n → IsDecided front words k)
 
 -- what may be left of a log without its last cell, before the first one that reads as blank
-pub record IsShort (bank : Bank) (n at : ℕ) (choice : Choice) : Type 0 where
+pub record IsShort (front : Front) (bank : Bank) (n at : ℕ) (choice : Choice) : Type 0 where
   pub more : 0 < at
-  pub certain : AreCertain bank.words (at - 1)
-  pub within : at - 1 ≤ room bank.size
-  pub same : upto bank.words (at - 1) ≡ upto bank.words n
-  pub stands : IsOneOf choice (upto bank.words (at - 1))
-  pub left : IsLeft bank n choice
+  pub certain : AreCertain front bank.words (at - 1)
+  pub within : at - 1 ≤ room front bank.size
+  pub same : upto front bank.words (at - 1) ≡ upto front bank.words n
+  pub stands : IsOneOf choice (upto front bank.words (at - 1))
+  pub left : IsLeft front bank n choice

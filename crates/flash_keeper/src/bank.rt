@@ -6,13 +6,13 @@ use plc_base::Failed;
 
 /// The number of the layout of a store, the lowest 16 bits of the first word of a bank: of the words of its log, and of the records of a node
 /// in it. Code that reads either otherwise has another number, so it takes no store of older code for one of its own.
-pub const LAYOUT: u16 = 3;
+pub const LAYOUT: u16 = 4;
 
 /// A word of which each bit is 1.
 pub const ERASED: u64 = 0xFFFF_FFFF_FFFF_FFFF;
 
 /// The first word of a bank with a store: six octets that no other use writes there, and [`LAYOUT`].
-pub const HEAD: u64 = 0x464C_4B45_4550_0003;
+pub const HEAD: u64 = 0x464C_4B45_4550_0004;
 
 // How many bits of a word are 1.
 fn ones_of(word: u64) -> u32
@@ -83,14 +83,14 @@ pub trait FlashBank {
         ensures erases { Erases (is_ok result) (bank self.old) (bank self.new) }
         ensures failed { OnErr result (has_failed self.new ≡ true) };
 
-    /// There is room for a cell, and places fit into 32 bits.
+    /// There is room for what a bank begins with, and places fit into 32 bits.
     ghost fits: { (b : Self) → (15 ≤ (bank b).size) × ((bank b).size < 2 ^ 32) };
 }
 
 /// The number of the layout of a store in a bank, None where its first word names none. It is [`LAYOUT`] in each bank that an opening
 /// takes; where a store of another layout is found, firmware that knows that layout can read it.
 pub fn layout_of<B: FlashBank>(bank: &B) -> Option<u16>
-    ensures own { (B.bank bank.now).torn ≡ false → (B.bank bank.now).words 0 ≡ Some head_word → result ≡ Some 3 }
+    ensures own { (B.bank bank.now).torn ≡ false → (B.bank bank.now).words 0 ≡ Some head_word → result ≡ Some 4 }
     ensures named { (B.bank bank.now).torn ≡ false → (word : ℕ) → (B.bank bank.now).words 0 ≡ Some word → result ≡ layout_in word }
 {
     let head = bank.read(0);

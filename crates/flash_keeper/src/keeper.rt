@@ -1,16 +1,19 @@
 //! The keeper.
-ghost use Rattle.std.specs.Prelude.{◌≡◌, ◌<◌, ◌≤◌, ◌+◌, ◌^◌, ◌/◌, ◌||◌, ℕ, is_ok, OnOk, OnErr, IfOk, IfErr, None, true, false, ◌⊎◌};
+ghost use Rattle.std.specs.Prelude.{◌≡◌, ◌<◌, ◌≤◌, ◌+◌, ◌-◌, ◌^◌, ◌/◌, ◌||◌, ℕ, is_ok, OnOk, OnErr, IfOk, IfErr, None, true, false, ◌⊎◌};
 ghost use Rattle.std.specs.FinMap.{insert};
 ghost use Rattle.std.specs.FinMap as map;
 ghost use Rattle.plc_base.specs.Keeper.{IsSlot, Puts};
-ghost use Rattle.flash_keeper.specs.Log.{Choice, IsLeft, room};
+ghost use Rattle.flash_keeper.specs.Log.{Choice, IsLeft};
 ghost use Rattle.flash_keeper.specs.Banks.{AreLeft, ArePurged, IsStore, IsCause, IsOpened, IsLeftBy, IsLeftOpen, IsDecayed, MayOpen, FlashStore};
 ghost use Rattle.flash_keeper.specs.Banks.{HasCause, kept_store};
 ghost use Rattle.flash_keeper.specs.Flash.{IsBlank};
+ghost use Rattle.flash_keeper.specs.Front.{front_in};
+ghost use Rattle.flash_keeper.specs.declared.front.Front.{Front};
 ghost use Rattle.flash_keeper.specs.Wear.{one_if, worn_of, worn_with, AreProgrammed};
 
 use crate::bank::FlashBank;
-use crate::cells::{cell_count, find, has_decayed};
+use crate::cells::{CELL, find, has_decayed, sound_front};
+use crate::front::{BEFORE, NO_FRONT};
 use crate::pair::{Pair, generation_of, wipe};
 use plc_base::{Failed, Keeper, Record};
 use std::marker::Model;
@@ -28,8 +31,8 @@ pub enum OpenFault {
     /// One bank has more words than the other.
     #[error("the banks have different sizes")]
     Sizes,
-    /// A bank has fewer than two cells for each slot.
-    #[error("the banks are too small for so many slots")]
+    /// A bank has no room for so many puts beside the records.
+    #[error("the banks are too small for such records")]
     Small,
     /// Bits of a cell have changed by themselves since it was written.
     #[error("a record has decayed")]
@@ -61,46 +64,55 @@ impl<B: FlashBank + Drop> Model for FlashKeeper<B> {
     ghost coded = { flash_store_code };
 
     ghost view = { λ k. record {
-      store = record { records = upto (B.bank k.pair.live).words k.pair.next; pending = None; faults = k.faults; known_cut = None; listed = None };
-      left = upto_fence (B.bank k.pair.live).words k.pair.next;
-      purged = are_purged (B.bank k.pair.live) (B.bank k.pair.spare) k.pair.next;
+      store = record { records = upto k.pair.front (B.bank k.pair.live).words k.pair.next; pending = None; faults = k.faults; known_cut = None; listed = None };
+      left = upto_fence k.pair.front (B.bank k.pair.live).words k.pair.next;
+      purged = are_purged (B.bank k.pair.spare) k.pair.next;
       has_failed = B.has_failed k.pair.live || B.has_failed k.pair.spare;
-      full = are_full (B.bank k.pair.live) k.pair.next;
-      worn = worn_with (B.bank k.pair.live) (B.bank k.pair.spare);
-      used_up = leb (room (B.bank k.pair.live).size) k.pair.next;
+      full = are_full k.pair.front (B.bank k.pair.live) k.pair.next;
+      worn = worn_with k.pair.front (B.bank k.pair.live) (B.bank k.pair.spare);
+      used_up = leb (room k.pair.front (B.bank k.pair.live).size) k.pair.next;
     } };
 
-    ghost invariant = { λ k. IsKept (B.bank k.pair.live) (B.bank k.pair.spare) k.pair.next k.pair.copied k.failed
+    ghost invariant = { λ k. IsKept k.pair.front (B.bank k.pair.live) (B.bank k.pair.spare) k.pair.next k.pair.copied k.failed
         (B.has_failed k.pair.live || B.has_failed k.pair.spare) };
 }
 
 impl<B: FlashBank + Drop> FlashKeeper<B> {
-    /// Retires and erases two banks, and makes them a store with no record, for records of this many slots: for a device that has none yet, since
-    /// all that they held is lost.
+    /// Retires and erases two banks, and makes them a store with no record: for a device that has none yet, since all that they held is lost.
     ///
-    /// It gives the banks back with its fault: [`OpenFault::Sizes`] where they have different sizes, or [`OpenFault::Small`] where a bank has fewer
-    /// than two cells for each slot, and then nothing was done; or [`OpenFault::Flash`] where a program or an erase failed, and then they are to
-    /// be formatted again. A bank with hardly more cells than records would be erased at each put, and worn out in months.
+    /// `words` is how many words the records take at most, of each slot one: a word for each, and one for each 8 octets begun. `puts` is how many puts and
+    /// openings there are to be between two erases of a bank, at least: a bank with hardly more words than its records take would be erased at each
+    /// put, and worn out in months. It gives the banks back with its fault: [`OpenFault::Sizes`] where they have different sizes, or
+    /// [`OpenFault::Small`] where a bank has no room for so many puts beside such records, and then nothing was done; or [`OpenFault::Flash`] where a
+    /// program or an erase failed, and then they are to be formatted again.
     #[tactic(auto, using(crate::proofs::KeeperLemmas::kept_of_ready, crate::proofs::KeeperLemmas::kept_of_failed, crate::proofs::KeeperLemmas::nothing_else))]
-    pub fn format(first: B, second: B, slots: usize) -> Result<FlashKeeper<B>, (OpenFault, B, B)>
+    pub fn format(
+        first: B,
+        second: B,
+        words: usize,
+        puts: usize,
+    ) -> Result<FlashKeeper<B>, (OpenFault, B, B)>
         ensures ok { IfOk result (λ keeper. keeper.store ≡ record { records = map.empty; pending = None; faults = 0; known_cut = None; listed = None }) }
         ensures left { IfOk result (λ keeper. keeper.left ≡ map.empty) }
         ensures purged { IfOk result (λ keeper. keeper.purged ≡ true) }
         ensures worn { IfOk result (λ keeper. keeper.worn ≡ 0) }
         ensures sizes { IfOk result (λ keeper. (B.bank first).size ≡ (B.bank second).size) }
-        ensures cells { IfOk result (λ keeper. slots ≤ room (B.bank first).size / 2) }
-        ensures fault { IfErr result (λ e. ((e.0 ≡ OpenFault.Small) × (room (B.bank first).size / 2 < slots)) ⊎ IsCause e.0 (B.bank first) (B.bank second)) }
+        ensures cells { IfOk result (λ keeper. puts ≤ ((B.bank first).size - (4 + words)) / 12) }
+        ensures fault { IfErr result (λ e. ((e.0 ≡ OpenFault.Small) × (((B.bank first).size - (4 + words)) / 12 < puts))
+            ⊎ IsCause e.0 (B.bank first) (B.bank second)) }
         ensures failed { IfErr result (λ e. e.0 ≡ OpenFault.Flash → (B.has_failed e.1 ≡ true) ⊎ (B.has_failed e.2 ≡ true)) }
     {
         if first.words() != second.words() {
             return Err((OpenFault::Sizes, first, second));
         }
-        if cell_count(&first) / 2 < slots {
+        let behind = first.words().saturating_sub(BEFORE.saturating_add(words));
+        if behind / CELL < puts {
             return Err((OpenFault::Small, first, second));
         }
         let mut pair = Pair {
             live: first,
             spare: second,
+            front: NO_FRONT,
             next: 0,
             generation: 1,
             copied: None,
@@ -118,25 +130,29 @@ impl<B: FlashBank + Drop> FlashKeeper<B> {
     // Settles two banks, of which the first one read as live, unless a cell of it has decayed.
     #[tactic(auto, using(crate::proofs::KeeperLemmas::kept_of_ready, crate::proofs::KeeperLemmas::kept_of_failed, crate::proofs::KeeperLemmas::nothing_else))]
     fn settled(live: B, spare: B, generation: u64) -> Result<FlashKeeper<B>, (OpenFault, B, B)>
-        requires left { ((c : Choice) × (n : ℕ) × AreLeft (B.bank live) (B.bank spare) n c) ⊎ IsDecayed (B.bank live) (B.bank spare) }
+        requires left { ((c : Choice) × (front : Front) × (n : ℕ) × AreLeft front (B.bank live) (B.bank spare) n c) ⊎ IsDecayed (B.bank live) (B.bank spare) }
         requires sizes { (B.bank live).size ≡ (B.bank spare).size }
-        ensures opened { IfOk result (λ keeper. (n : ℕ) (c : Choice) → AreLeft (B.bank live) (B.bank spare) n c → IsOpened c keeper) }
+        ensures opened { IfOk result (λ keeper. (front : Front) (n : ℕ) (c : Choice) → AreLeft front (B.bank live) (B.bank spare) n c → IsOpened c keeper) }
         ensures sizes { (B.bank live).size ≡ (B.bank spare).size }
         ensures fault { IfErr result (λ e. (e.0 ≡ OpenFault.Flash) ⊎ ((e.0 ≡ OpenFault.Decayed)
-            × ((n : ℕ) (c : Choice) → AreLeft (B.bank live) (B.bank spare) n c → ⊥))) }
+            × ((front : Front) (n : ℕ) (c : Choice) → AreLeft front (B.bank live) (B.bank spare) n c → ⊥))) }
         ensures decayed { IsDecayed (B.bank live) (B.bank spare) → (IfOk result (λ keeper. ⊥)) × IfErr result (λ e. (e.0 ≡ OpenFault.Decayed)
             × (B.bank e.1 ≡ B.bank live) × (B.bank e.2 ≡ B.bank spare)) }
         ensures failed { IfErr result (λ e. e.0 ≡ OpenFault.Flash → (B.has_failed e.1 ≡ true) ⊎ (B.has_failed e.2 ≡ true)) }
-        ensures left { IfErr result (λ e. (n : ℕ) (c : Choice) → AreLeft (B.bank live) (B.bank spare) n c → IsStore (B.bank e.1) (B.bank e.2) c) }
-        ensures worn { IfOk result (λ keeper. keeper.worn ≤ worn_with (B.bank live) (B.bank spare) + one_if (B.bank spare).torn + one_if keeper.used_up) }
-        ensures cut { IfErr result (λ e. worn_of (B.bank e.1) (B.bank e.2) ≤ worn_with (B.bank live) (B.bank spare) + one_if (B.bank spare).torn + 1) }
+        ensures left { IfErr result (λ e. (front : Front) (n : ℕ) (c : Choice) → AreLeft front (B.bank live) (B.bank spare) n c
+            → IsStore (B.bank e.1) (B.bank e.2) c) }
+        ensures worn { IfOk result (λ keeper. keeper.worn
+            ≤ worn_with (front_in (B.bank live)) (B.bank live) (B.bank spare) + one_if (B.bank spare).torn + one_if keeper.used_up) }
+        ensures cut { IfErr result (λ e. worn_of (B.bank e.1) (B.bank e.2)
+            ≤ worn_with (front_in (B.bank live)) (B.bank live) (B.bank spare) + one_if (B.bank spare).torn + 1) }
     {
-        if has_decayed(&live) {
+        let Some(front) = sound_front(&live) else {
             return Err((OpenFault::Decayed, live, spare));
-        }
+        };
         let mut pair = Pair {
             live,
             spare,
+            front,
             next: 0,
             generation,
             copied: None,
@@ -284,7 +300,7 @@ impl<B: FlashBank + Drop> FlashKeeper<B> {
     /// banks again, which answers [`OpenFault::Decayed`].
     pub fn live(&self) -> &B
         ensures firm { (B.bank result.now).torn ≡ false }
-        ensures log { (n : ℕ) × IsLeft (B.bank result.now) n (record { old = self.now.store.records; new = self.now.left }) }
+        ensures log { (front : Front) × (n : ℕ) × IsLeft front (B.bank result.now) n (record { old = self.now.store.records; new = self.now.left }) }
     {
         &self.pair.live
     }
@@ -331,7 +347,7 @@ impl<B: FlashBank + Drop> Keeper for FlashKeeper<B> {
 
     #[tactic(auto, using(crate::proofs::KeeperLemmas::kept_within))]
     fn get(&self, slot: u32) -> Option<Record> {
-        find(&self.pair.live, self.pair.next, slot)
+        find(&self.pair.live, self.pair.front, self.pair.next, slot)
     }
 
     /// Writes the record at a slot. It fails only where a program or an erase failed, and where both banks are full of records of other slots (`failed`).

@@ -18,9 +18,9 @@
 //! - A torn erase may leave any word of a bank as it was, the head too. So a bank is retired before it is erased, and before the store goes on
 //!   with the copy of it: its head is then 0 in each bit. One premise is left (`from_zero`): where a torn erase met such a word, it does not read
 //!   as the head of a store. Of its 64 bits just 20 would have to rise before each of the others: one order in 1.9 * 10^16.
-//! - How often a word is programmed between two erases of its bank: one of a cell twice at most; of the head the first one three times, and once more
-//!   right before the erase, the other two twice. A put, a purge or an opening that fails adds one at most to each word, a reopening two, and an opening
-//!   that finds an erase of the other bank cut short, or leaves no cell of the log, one (`worn`, `cut`, and `programs` of `into_banks`).
+//! - How often a word is programmed between two erases of its bank: one of a cell or of the front twice at most; of the head the first one three times, and
+//!   once more right before the erase, the other two twice. A put, a purge or an opening that fails adds one at most to each word, a reopening two, and an
+//!   opening that finds an erase of the other bank cut short, or leaves no cell of the log, one (`worn`, `cut`, and `programs` of `into_banks`).
 //! - No opening finds an older store. It may find none, for a time, where power failed in two programs in a row: that of the mark of a copy,
 //!   and that by which the opening after it retires this copy, whose mark read as not there. If both torn words then read as whole, it goes on
 //!   with the copy, whose head is weak until the log is copied again. Openings that read the head answer its records, others
@@ -31,13 +31,14 @@
 //!
 //! # Decay
 //!
-//! A bit may lose its charge over the years, or gain one where words beside it are programmed. Each cell has a check of 32 bits over its slot, its
-//! length and its 64 octets, also those that were left erased: a residue modulo a prime. An opening looks at the cells of the live bank, one pass,
-//! before it programs anything. A cell that counts and has another check makes it answer [`OpenFault::Decayed`] (`decayed` of `open`), with the
-//! banks as they were. Each change within one octet, or of the slot and the length, gives another check
-//! ([`laws::a_changed_octet_is_seen`], [`laws::a_changed_slot_is_seen`]), each change of at most four bits too (counted for this prime, not proved),
-//! and of all others all but one in 4 * 10^9. Marks are read by most of their 64 bits, where nothing is torn, so a few bits of one that have changed
-//! make no difference. One bit of the head makes a live bank none: since the other one is retired, the answer is [`OpenFault::NoStore`].
+//! A bit may lose its charge over the years, or gain one where words beside it are programmed. Each record has a check of 32 bits over its slot, its
+//! length and its octets (in a cell 64, also those that were left erased): a residue modulo a prime; and so has the number of the records of the front.
+//! An opening looks at the front and the cells of the live bank, one pass, before it programs anything. A record that counts and has another check makes
+//! it answer [`OpenFault::Decayed`] (`decayed` of `open`), with the banks as they were. Each change within one octet, or of the slot and the length,
+//! gives another check ([`laws::a_changed_octet_is_seen`], [`laws::a_changed_slot_is_seen`]), each change of at most four bits too (counted for this
+//! prime, not proved), and of all others all but one in 4 * 10^9. Marks are read by most of their 64 bits, where nothing is torn, so a few bits of one
+//! that have changed make no difference. One bit of the head makes a live bank none: since the other one is retired, the answer is
+//! [`OpenFault::NoStore`].
 //!
 //! A node whose store has decayed must not go on with what is left: a counter may be among it. Format the banks, and let it join again.
 //!
@@ -67,27 +68,30 @@
 //!
 //! | | |
 //! |---|---|
-//! | RAM | two [`FlashBank`] objects and 48 octets (32 to 40 on a 32-bit machine); no table of slots, no buffer that stays, no allocation |
-//! | flash, per bank | 24 octets, and 96 for each put until the bank is full |
+//! | RAM | two [`FlashBank`] objects and 72 octets (40 to 48 on a 32-bit machine); no table of slots, no buffer that stays, no allocation |
+//! | flash, per bank | 32 octets; 8 for each record that the last copy kept, and its octets in words of 8; and 96 for each put since |
 //! | a put | 3 programs of slot, fence and mark, and one for each 8 octets of the record: 11 at most |
 //! | an opening | 2 programs, and one cell; one program more after a cut in a fence; 3 more in the first one after a bank was copied, which are of heads |
-//! | a word of a head | programmed at most 4 times between erases, one of a cell twice, and oftener as above |
-//! | a bank that is full | one erase, 5 programs, and a copy of each record; then the other bank is live, so the banks wear by turns |
-//! | erases | one in (cells of a bank - slots with a record) puts and openings, and one after two cuts in a row as above |
-//! | reads | an opening: two words of each cell, and ten more of each that counts; a get: two of each cell from the end on |
+//! | a word of a head | programmed at most 4 times between erases, one of a cell twice, one of the front once, and oftener as above |
+//! | a bank that is full | one erase, 6 programs, and a copy of each record by 9 at most; then the other bank is live, so the banks wear by turns |
+//! | erases | one in as many puts and openings as there are cells behind the records, and one after two cuts in a row as above |
+//! | words read | an opening: each record of the front, three of each cell, ten more if it counts; a get: two of each cell from the end, then of the front |
 //!
-//! Two banks of 32 KiB have 341 cells each; a meter has at most 166 records, so there is one erase in 175 puts and openings at least. A bank with
-//! hardly more cells than records is erased at each put: [`FlashKeeper::format`] refuses fewer than two cells a slot. Nodes get records when they
-//! open, and hold them after that.
+//! A meter has at most 166 records, which take 339 words. So two banks of 4 KiB have 14 cells behind them, and there is one erase in 14 puts and openings;
+//! two of 20 KiB have 184. A bank with hardly more words than its records take is erased at each put: [`FlashKeeper::format`] takes how many puts there are
+//! to be between two erases. Nodes get records when they open, and hold them after that.
 #![tactic(auto)]
 
 mod bank;
 mod cells;
 mod check;
+mod copy;
+mod front;
 mod keeper;
 pub mod laws;
 mod model_flash;
 mod pair;
+mod records;
 
 pub use bank::{FlashBank, LAYOUT, layout_of};
 pub use cells::has_decayed;

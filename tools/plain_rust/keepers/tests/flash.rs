@@ -10,12 +10,12 @@ use std::cell::{Cell, RefCell};
 use std::rc::Rc;
 
 /// Words before the first cell of a bank, and words of a cell.
-const HEAD: usize = 3;
+const HEAD: usize = 4;
 const CELL: usize = 12;
 
-/// A bank that the test can reach while a keeper has it, and whether power fails in its next erase.
+/// A bank that the test can reach while a keeper has it, whether power fails in its next erase, and how many words were read.
 #[derive(Clone)]
-struct Bank(Rc<RefCell<ModelFlash>>, Rc<Cell<bool>>);
+struct Bank(Rc<RefCell<ModelFlash>>, Rc<Cell<bool>>, Rc<Cell<u64>>);
 
 impl FlashBank for Bank {
     fn words(&self) -> usize {
@@ -23,6 +23,7 @@ impl FlashBank for Bank {
     }
 
     fn read(&self, at: usize) -> u64 {
+        self.2.set(self.2.get() + 1);
         self.0.borrow().read(at)
     }
 
@@ -47,7 +48,7 @@ impl Chip {
     fn new(words: [usize; 2], seed: u64) -> Chip {
         let bank = |at: usize| {
             let flash = ModelFlash::new(Global, words[at], 2 * seed + at as u64).unwrap();
-            Bank(Rc::new(RefCell::new(flash)), Rc::default())
+            Bank(Rc::new(RefCell::new(flash)), Rc::default(), Rc::default())
         };
         Chip { banks: [bank(0), bank(1)] }
     }
@@ -57,8 +58,9 @@ impl Chip {
         Chip::new([HEAD + CELL * cells; 2], seed)
     }
 
+    /// For records of this many slots, of up to 64 octets each.
     fn format(&self, slots: usize) -> FlashKeeper<Bank> {
-        FlashKeeper::format(self.banks[0].clone(), self.banks[1].clone(), slots).map_err(|it| it.0).unwrap()
+        FlashKeeper::format(self.banks[0].clone(), self.banks[1].clone(), 9 * slots, 1).map_err(|it| it.0).unwrap()
     }
 
     /// Power comes back, and fails in these operations of either bank, if any.
@@ -81,6 +83,11 @@ impl Chip {
 
     fn programs(&self) -> u32 {
         self.banks.iter().map(|it| it.0.borrow().programs()).sum()
+    }
+
+    /// How many words were read since this was asked last.
+    fn reads(&self) -> u64 {
+        self.banks.iter().map(|it| it.2.take()).sum()
     }
 
     fn most_programs(&self) -> u32 {
@@ -242,7 +249,8 @@ fn a_changed_bit_of_a_head_brings_back_no_older_store() {
                         found += 1;
                     }
                     Err(fault) => {
-                        assert_eq!(fault, OpenFault::NoStore);
+                        // The fourth word of a bank is the number of the records of its front, with a check.
+                        assert_eq!(fault, if at == 3 { OpenFault::Decayed } else { OpenFault::NoStore });
                         none += 1;
                     }
                 }
@@ -340,9 +348,9 @@ fn a_thousand_starts_at_a_bouncing_supply_erase_hardly_ever() {
 
 #[test]
 fn banks_of_different_sizes_are_left_alone() {
-    for (first, second) in [(27, 39), (39, 27), (4_096, 27)] {
+    for (first, second) in [(28, 40), (40, 28), (4_096, 28)] {
         let chip = Chip::new([first, second], 1);
-        assert!(matches!(FlashKeeper::format(chip.banks[0].clone(), chip.banks[1].clone(), 1), Err((OpenFault::Sizes, ..))));
+        assert!(matches!(FlashKeeper::format(chip.banks[0].clone(), chip.banks[1].clone(), 9, 1), Err((OpenFault::Sizes, ..))));
         assert!(matches!(chip.open(false), Err(OpenFault::Sizes)));
         assert_eq!((chip.programs(), chip.erases()), (0, 0));
     }
@@ -431,5 +439,47 @@ fn a_part_that_refuses_programs_stops_the_store_and_loses_nothing() {
                 Err(fault) => assert_eq!(fault, OpenFault::Flash),
             }
         }
+    }
+}
+
+/// The slots of a meter, each in use, with the length of its record: ring, counters and floors, and the tables of marks, ranks and broadcasts.
+fn records_of_a_meter() -> Vec<(u32, usize)> {
+    let tables = [(0x100, 64), (0x200, 64), (0x300, 32)];
+    let entries = tables.into_iter().flat_map(|(first, count)| (first..first + count).map(|slot| (slot, 6)));
+    [(1, 38), (2, 4), (3, 2), (4, 2), (5, 32), (6, 4)].into_iter().chain(entries).collect()
+}
+
+#[test]
+fn a_full_meter_fits_two_banks_of_4_kib() {
+    let slots = records_of_a_meter();
+    let words = slots.iter().map(|(_, length)| 1 + length.div_ceil(8)).sum();
+    assert_eq!((slots.len(), words), (166, 339));
+    for (size, puts) in [(512, 14), (2_560, 184)] {
+        let chip = Chip::new([size; 2], 1);
+        let [first, second] = chip.banks.clone();
+        assert!(matches!(FlashKeeper::format(first.clone(), second.clone(), words, puts + 1), Err((OpenFault::Small, ..))));
+        let mut keeper = FlashKeeper::format(first, second, words, puts).map_err(|it| it.0).unwrap();
+        let mut judge = Judge::default();
+        for (slot, length) in &slots {
+            assert!(judge.put(&mut keeper, *slot, vec![*slot as u8; *length]));
+        }
+        keeper.purge().unwrap();
+        let (erases, programs) = (chip.erases(), chip.programs());
+        let (mut chance, mut most) = (Chance(1), 0);
+        for put in 0..50 * puts {
+            let (slot, length) = slots[chance.below(166) as usize];
+            chip.reads();
+            assert!(judge.put(&mut keeper, slot, vec![put as u8; length]));
+            most = most.max(chip.reads());
+        }
+        assert_eq!(chip.erases() - erases, 49);
+        let programs = (chip.programs() - programs) as usize / (50 * puts);
+        keeper = chip.open(false).unwrap();
+        let opening = chip.reads();
+        assert!(slots.iter().all(|(slot, _)| keeper.get(*slot).is_some()));
+        let gets = chip.reads();
+        judge.opened(&keeper, 0x320, &format!("{size} words"));
+        println!("a full meter in banks of {size} words: one erase in {puts} puts, {programs} programs a put; words read:");
+        println!("    by a put at most {most}, by an opening {opening}, by a get of each record {gets}");
     }
 }

@@ -10,18 +10,19 @@ pub returns-clause-settled : goal.returns-clause-settled
 returns-clause-settled g c =
     let old = g.B.FlashBank.bank c.args.bank.now in
     let new = g.B.FlashBank.bank c.program.new.self in
-    let p : Programs (close c.args.cell) 0 (is_ok c.program.result) old new =
+    let p : Programs (close c.args.front c.args.cell) 0 (is_ok c.program.result) old new =
     subst (λ (n : ℕ). Programs n 0 (is_ok c.program.result) old new) (ap (λ (n : ℕ). n + 9) c.place_of.ensures) c.program.ensures.programs in
     on_ok_of c.program.result (λ ok choice left unmarked.
-    settled_closed old new c.args.cell choice c.requires.within left unmarked (subst (λ (b : Bool). Programs (close c.args.cell) 0 b old new) ok p))
+    settled_closed c.args.front old new c.args.cell choice c.requires.within left unmarked
+    (subst (λ (b : Bool). Programs (close c.args.front c.args.cell) 0 b old new) ok p))
 
 pub returns-clause-left : goal.returns-clause-left
 returns-clause-left g c =
     let old = g.B.FlashBank.bank c.args.bank.now in
     let new = g.B.FlashBank.bank c.program.new.self in
-    let p : Programs (close c.args.cell) 0 (is_ok c.program.result) old new =
+    let p : Programs (close c.args.front c.args.cell) 0 (is_ok c.program.result) old new =
     subst (λ (n : ℕ). Programs n 0 (is_ok c.program.result) old new) (ap (λ (n : ℕ). n + 9) c.place_of.ensures) c.program.ensures.programs in
-    λ choice left unmarked. left_closed old new c.args.cell choice (is_ok c.program.result) c.requires.within left unmarked p
+    λ choice left unmarked. left_closed c.args.front old new c.args.cell choice (is_ok c.program.result) c.requires.within left unmarked p
 
 pub returns-clause-programs : goal.returns-clause-programs
 returns-clause-programs g c =
@@ -33,5 +34,5 @@ pub returns-clause-same : goal.returns-clause-same
 returns-clause-same g c =
     let old = g.B.FlashBank.bank c.args.bank.now in
     let new = g.B.FlashBank.bank c.program.new.self in
-    same_words old new (close c.args.cell) 0 (is_ok c.program.result)
+    same_words old new (close c.args.front c.args.cell) 0 (is_ok c.program.result)
     (subst (λ (n : ℕ). Programs n 0 (is_ok c.program.result) old new) (ap (λ (n : ℕ). n + 9) c.place_of.ensures) c.program.ensures.programs)

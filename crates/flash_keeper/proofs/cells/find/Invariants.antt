@@ -7,7 +7,7 @@ abbrev pub invariant-loop-cell : goal.invariant-loop-cell
 invariant-loop-cell g l =
     let words = (g.B.FlashBank.bank l.bank).words in
     record {
-      same : map.get (upto words l.cells) l.slot ≡ map.get (upto words l.cell) l.slot;
+      same : map.get (upto l.front words l.cells) l.slot ≡ map.get (upto l.front words l.cell) l.slot;
       below : l.cell ≤ l.cells;
     }
 

@@ -6,7 +6,7 @@ abbrev pub invariant-loop-cell : goal.invariant-loop-cell
 invariant-loop-cell g l =
     let bank = g.B.FlashBank.bank l.bank in
     record {
-      low : (n : ℕ) (c : Choice) → IsLeft bank n c → l.cell ≤ n + 1;
+      low : (n : ℕ) (c : Choice) → IsLeft l.front bank n c → l.cell ≤ n + 1;
       below : l.cell ≤ l.count;
     }
 

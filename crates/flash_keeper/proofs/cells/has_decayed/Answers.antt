@@ -1,31 +1,21 @@
-use Rattle.std.proofs.Common.{◌≡◌, inl, inr, ℕ, subst, arith}
-use Rattle.std.proofs.lemmas.Bool.{cases_lt}
-use Rattle.flash_keeper.specs.Log.{HasDecayed}
-use Rattle.flash_keeper.proofs.OpeningLemmas.{never_decayed, true_is_false}
+use Rattle.std.proofs.Common.{◌≡◌, Bool, true, false, not, Option, Some, None, is_some, refl}
+use Rattle.flash_keeper.specs.declared.front.Front.{Front}
 use Rattle.flash_keeper.proofs.cells.has_decayed.Goals as goal
 
-pub loop-cell-preserved : goal.loop-cell-preserved
-loop-cell-preserved g c =
-    let bank = g.B.FlashBank.bank c.args.bank.now in
-    let cell = c.loop-cell.cell in
-    record {
-      fine = λ k le decayed. elim (cases_lt k cell) [
-        | inl before ↦ c.loop-cell.invariant.fine k before decayed
-        | inr from ↦ (let here : k ≡ cell = omega (arith, le, from) in
-            true_is_false c.is_decayed.result (c.is_decayed.ensures.decayed (subst (λ (n : ℕ). HasDecayed bank.words n) here decayed)) c.if-is_decayed.false)
-      ];
-      below = omega (arith, c.loop-cell-test.true);
-    }
+found : (seen : Option Front) (f : Front) (none : Bool) → is_some seen ≡ not none → seen ≡ Some f → none ≡ true → ⊥
+found (Some x) f true is e t = cc
+found (Some x) f false is e t = cc
+found None f none is e t = cc
 
-pub returns-then-is_decayed-clause-left : goal.returns-then-is_decayed-clause-left
-returns-then-is_decayed-clause-left g c = λ is n choice left.
-    never_decayed (g.B.FlashBank.bank c.args.bank.now) n c.loop-cell.cell choice c.is_decayed.result left c.if-is_decayed.true
-    c.is_decayed.ensures.whole c.is_decayed.ensures.unmarked
+not_found : (seen : Option Front) (none : Bool) → is_some seen ≡ not none → seen ≡ None → none ≡ true
+not_found None true is e = refl
+not_found None false is e = cc
+not_found (Some x) none is e = cc
+
+pub returns-clause-left : goal.returns-clause-left
+returns-clause-left g c = λ is front n choice left.
+    found c.sound_front.result front c.is_none.result c.is_none.ensures (c.sound_front.ensures.left front n choice left) is
 
 pub returns-clause-decayed : goal.returns-clause-decayed
-returns-clause-decayed g c = λ is k less decayed. c.loop-cell.invariant.fine k (omega (
-  arith,
-  less,
-  c.loop-cell-test.false,
-  c.cell_count-count.ensures,
-)) decayed
+returns-clause-decayed g c = λ decayed.
+    not_found c.sound_front.result c.is_none.result c.is_none.ensures (c.sound_front.ensures.decayed decayed)

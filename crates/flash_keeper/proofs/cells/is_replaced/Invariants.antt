@@ -1,4 +1,4 @@
-use Rattle.std.proofs.Common.{◌≡◌, ◌≤◌, ◌+◌, ◌-◌}
+use Rattle.std.proofs.Common.{◌≡◌, ◌≤◌, ◌-◌}
 use Rattle.flash_keeper.specs.Log.{holds_later}
 use Rattle.flash_keeper.proofs.cells.is_replaced.Given as goal
 
@@ -6,7 +6,7 @@ abbrev pub invariant-loop-later : goal.invariant-loop-later
 invariant-loop-later g l =
     let words = (g.B.FlashBank.bank l.bank).words in
     record {
-      same : holds_later words (l.cell + 1) (l.cells - (l.cell + 1)) l.slot ≡ holds_later words l.later (l.cells - l.later) l.slot;
+      same : holds_later l.front words l.from (l.cells - l.from) l.slot ≡ holds_later l.front words l.later (l.cells - l.later) l.slot;
       below : l.later ≤ l.cells;
     }
 

@@ -31,67 +31,72 @@ returns-clause-settled g c = λ same choice left.
 pub returns-in_err-mark_cell-clause-counts : goal.returns-in_err-mark_cell-clause-counts
 returns-in_err-mark_cell-clause-counts g c =
     let k = c.args.cell in
-    program_counts (g.B.FlashBank.bank c.args.bank.now) (g.B.FlashBank.bank c.mark_cell.new.bank) (mark k) 0 (place k) (place k + 12) false (omega arith)
+    program_counts (g.B.FlashBank.bank c.args.bank.now) (g.B.FlashBank.bank c.mark_cell.new.bank) (mark c.args.front k) 0 (place c.args.front k)
+    (place c.args.front k + 12) false (omega arith)
     (omega arith)
     c.in_err-mark_cell.ensures.programs
 
 pub returns-in_err-mark_cell-clause-keeps : goal.returns-in_err-mark_cell-clause-keeps
 returns-in_err-mark_cell-clause-keeps g c =
-    zero_keeps (g.B.FlashBank.bank c.args.bank.now) (g.B.FlashBank.bank c.mark_cell.new.bank) (mark c.args.cell) false
+    zero_keeps c.args.front (g.B.FlashBank.bank c.args.bank.now) (g.B.FlashBank.bank c.mark_cell.new.bank) (mark c.args.front c.args.cell) false
     c.in_err-mark_cell.ensures.programs
 
 pub returns-then-reads_marked-clause-counts : goal.returns-then-reads_marked-clause-counts
 returns-then-reads_marked-clause-counts g c =
     let k = c.args.cell in
-    program_counts (g.B.FlashBank.bank c.args.bank.now) (g.B.FlashBank.bank c.mark_cell.new.bank) (mark k) 0 (place k) (place k + 12) true (omega arith)
+    program_counts (g.B.FlashBank.bank c.args.bank.now) (g.B.FlashBank.bank c.mark_cell.new.bank) (mark c.args.front k) 0 (place c.args.front k)
+    (place c.args.front k + 12) true (omega arith)
     (omega arith)
     c.in_ok-mark_cell.ensures.programs
 
 pub returns-then-reads_marked-clause-keeps : goal.returns-then-reads_marked-clause-keeps
 returns-then-reads_marked-clause-keeps g c =
-    zero_keeps (g.B.FlashBank.bank c.args.bank.now) (g.B.FlashBank.bank c.mark_cell.new.bank) (mark c.args.cell) true
+    zero_keeps c.args.front (g.B.FlashBank.bank c.args.bank.now) (g.B.FlashBank.bank c.mark_cell.new.bank) (mark c.args.front c.args.cell) true
     c.in_ok-mark_cell.ensures.programs
 
 pub returns-in_err-close_cell-clause-counts : goal.returns-in_err-close_cell-clause-counts
 returns-in_err-close_cell-clause-counts g c =
     let k = c.args.cell in
-    program_counts (g.B.FlashBank.bank c.args.bank.now) (g.B.FlashBank.bank c.close_cell.new.bank) (close k) 0 (place k) (place k + 12) false (omega arith)
+    program_counts (g.B.FlashBank.bank c.args.bank.now) (g.B.FlashBank.bank c.close_cell.new.bank) (close c.args.front k) 0 (place c.args.front k)
+    (place c.args.front k + 12) false (omega arith)
     (omega arith)
     c.in_err-close_cell.ensures.programs
 
 pub returns-in_err-close_cell-clause-keeps : goal.returns-in_err-close_cell-clause-keeps
 returns-in_err-close_cell-clause-keeps g c =
-    zero_keeps (g.B.FlashBank.bank c.args.bank.now) (g.B.FlashBank.bank c.close_cell.new.bank) (close c.args.cell) false
+    zero_keeps c.args.front (g.B.FlashBank.bank c.args.bank.now) (g.B.FlashBank.bank c.close_cell.new.bank) (close c.args.front c.args.cell) false
     c.in_err-close_cell.ensures.programs
 
 pub returns-then-is_unfenced-clause-counts : goal.returns-then-is_unfenced-clause-counts
 returns-then-is_unfenced-clause-counts g c =
     let k = c.args.cell in
-    program_counts (g.B.FlashBank.bank c.args.bank.now) (g.B.FlashBank.bank c.close_cell.new.bank) (close k) 0 (place k) (place k + 12) true (omega arith)
+    program_counts (g.B.FlashBank.bank c.args.bank.now) (g.B.FlashBank.bank c.close_cell.new.bank) (close c.args.front k) 0 (place c.args.front k)
+    (place c.args.front k + 12) true (omega arith)
     (omega arith)
     c.in_ok-close_cell.ensures.programs
 
 pub returns-then-is_unfenced-clause-keeps : goal.returns-then-is_unfenced-clause-keeps
 returns-then-is_unfenced-clause-keeps g c =
-    zero_keeps (g.B.FlashBank.bank c.args.bank.now) (g.B.FlashBank.bank c.close_cell.new.bank) (close c.args.cell) true
+    zero_keeps c.args.front (g.B.FlashBank.bank c.args.bank.now) (g.B.FlashBank.bank c.close_cell.new.bank) (close c.args.front c.args.cell) true
     c.in_ok-close_cell.ensures.programs
 
 pub returns-then-is_shut-clause-counts : goal.returns-then-is_shut-clause-counts
-returns-then-is_shut-clause-counts g c = no_counts (g.B.FlashBank.bank c.args.bank.now) (place c.args.cell) (place c.args.cell + 12)
+returns-then-is_shut-clause-counts g c = no_counts (g.B.FlashBank.bank c.args.bank.now) (place c.args.front c.args.cell) (place c.args.front c.args.cell + 12)
 
 pub returns-then-is_shut-clause-keeps : goal.returns-then-is_shut-clause-keeps
-returns-then-is_shut-clause-keeps g c = keeps_all (g.B.FlashBank.bank c.args.bank.now)
+returns-then-is_shut-clause-keeps g c = keeps_all c.args.front (g.B.FlashBank.bank c.args.bank.now)
 
 pub returns-in_err-fence_cell-clause-counts : goal.returns-in_err-fence_cell-clause-counts
 returns-in_err-fence_cell-clause-counts g c =
     let k = c.args.cell in
-    program_counts (g.B.FlashBank.bank c.args.bank.now) (g.B.FlashBank.bank c.fence_cell.new.bank) (fence k) 0 (place k) (place k + 12) false (omega arith)
+    program_counts (g.B.FlashBank.bank c.args.bank.now) (g.B.FlashBank.bank c.fence_cell.new.bank) (fence c.args.front k) 0 (place c.args.front k)
+    (place c.args.front k + 12) false (omega arith)
     (omega arith)
     c.in_err-fence_cell.ensures.programs
 
 pub returns-in_err-fence_cell-clause-keeps : goal.returns-in_err-fence_cell-clause-keeps
 returns-in_err-fence_cell-clause-keeps g c =
-    zero_keeps (g.B.FlashBank.bank c.args.bank.now) (g.B.FlashBank.bank c.fence_cell.new.bank) (fence c.args.cell) false
+    zero_keeps c.args.front (g.B.FlashBank.bank c.args.bank.now) (g.B.FlashBank.bank c.fence_cell.new.bank) (fence c.args.front c.args.cell) false
     c.in_err-fence_cell.ensures.programs
 
 pub returns-in_err-mark_cell-2-clause-counts : goal.returns-in_err-mark_cell-2-clause-counts
@@ -100,9 +105,11 @@ returns-in_err-mark_cell-2-clause-counts g c =
     let a = g.B.FlashBank.bank c.args.bank.now in
     let b = g.B.FlashBank.bank c.fence_cell.new.bank in
     let e = g.B.FlashBank.bank c.mark_cell-2.new.bank in
-    then_counts a b e (place k) (mark k) (place k + 12) (omega arith) (omega arith)
-    (program_counts a b (fence k) 0 (place k) (mark k) true (omega arith) (omega arith) c.in_ok-fence_cell.ensures.programs)
-    (program_counts b e (mark k) 0 (mark k) (place k + 12) false (omega arith) (omega arith) c.in_err-mark_cell-2.ensures.programs)
+    then_counts a b e (place c.args.front k) (mark c.args.front k) (place c.args.front k + 12) (omega arith) (omega arith)
+    (program_counts a b (fence c.args.front k) 0 (place c.args.front k) (mark c.args.front k) true (omega arith) (omega arith)
+    c.in_ok-fence_cell.ensures.programs)
+    (program_counts b e (mark c.args.front k) 0 (mark c.args.front k) (place c.args.front k + 12) false (omega arith) (omega arith)
+    c.in_err-mark_cell-2.ensures.programs)
 
 pub returns-in_err-mark_cell-2-clause-keeps : goal.returns-in_err-mark_cell-2-clause-keeps
 returns-in_err-mark_cell-2-clause-keeps g c =
@@ -110,8 +117,8 @@ returns-in_err-mark_cell-2-clause-keeps g c =
     let a = g.B.FlashBank.bank c.args.bank.now in
     let b = g.B.FlashBank.bank c.fence_cell.new.bank in
     let e = g.B.FlashBank.bank c.mark_cell-2.new.bank in
-    then_keeps a b e (zero_keeps a b (fence k) true c.in_ok-fence_cell.ensures.programs)
-    (zero_keeps b e (mark k) false c.in_err-mark_cell-2.ensures.programs)
+    then_keeps c.args.front a b e (zero_keeps c.args.front a b (fence c.args.front k) true c.in_ok-fence_cell.ensures.programs)
+    (zero_keeps c.args.front b e (mark c.args.front k) false c.in_err-mark_cell-2.ensures.programs)
 
 pub returns-clause-counts : goal.returns-clause-counts
 returns-clause-counts g c =
@@ -119,9 +126,11 @@ returns-clause-counts g c =
     let a = g.B.FlashBank.bank c.args.bank.now in
     let b = g.B.FlashBank.bank c.fence_cell.new.bank in
     let e = g.B.FlashBank.bank c.mark_cell-2.new.bank in
-    then_counts a b e (place k) (mark k) (place k + 12) (omega arith) (omega arith)
-    (program_counts a b (fence k) 0 (place k) (mark k) true (omega arith) (omega arith) c.in_ok-fence_cell.ensures.programs)
-    (program_counts b e (mark k) 0 (mark k) (place k + 12) true (omega arith) (omega arith) c.in_ok-mark_cell-2.ensures.programs)
+    then_counts a b e (place c.args.front k) (mark c.args.front k) (place c.args.front k + 12) (omega arith) (omega arith)
+    (program_counts a b (fence c.args.front k) 0 (place c.args.front k) (mark c.args.front k) true (omega arith) (omega arith)
+    c.in_ok-fence_cell.ensures.programs)
+    (program_counts b e (mark c.args.front k) 0 (mark c.args.front k) (place c.args.front k + 12) true (omega arith) (omega arith)
+    c.in_ok-mark_cell-2.ensures.programs)
 
 pub returns-clause-keeps : goal.returns-clause-keeps
 returns-clause-keeps g c =
@@ -129,5 +138,5 @@ returns-clause-keeps g c =
     let a = g.B.FlashBank.bank c.args.bank.now in
     let b = g.B.FlashBank.bank c.fence_cell.new.bank in
     let e = g.B.FlashBank.bank c.mark_cell-2.new.bank in
-    then_keeps a b e (zero_keeps a b (fence k) true c.in_ok-fence_cell.ensures.programs)
-    (zero_keeps b e (mark k) true c.in_ok-mark_cell-2.ensures.programs)
+    then_keeps c.args.front a b e (zero_keeps c.args.front a b (fence c.args.front k) true c.in_ok-fence_cell.ensures.programs)
+    (zero_keeps c.args.front b e (mark c.args.front k) true c.in_ok-mark_cell-2.ensures.programs)

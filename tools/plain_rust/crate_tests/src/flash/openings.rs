@@ -9,7 +9,7 @@ use std::alloc::{AllocError, Global};
 use std::test::Fail;
 
 /// Thirty cells a bank.
-const WORDS: usize = 3 + 12 * 30;
+const WORDS: usize = 4 + 12 * 30;
 
 type Store = FlashKeeper<ModelFlash>;
 
@@ -17,7 +17,7 @@ type Store = FlashKeeper<ModelFlash>;
 fn copied(alloc: Global) -> Result<Option<Store>, AllocError> {
     let first = ModelFlash::new(alloc, WORDS, 0x9E37_79B9)?;
     let second = ModelFlash::new(alloc, WORDS, 0x7F4A_7C15)?;
-    let Ok(mut keeper) = FlashKeeper::format(first, second, 1) else {
+    let Ok(mut keeper) = FlashKeeper::format(first, second, 4, 1) else {
         return Ok(None);
     };
     for k in 0..31 {
@@ -68,7 +68,7 @@ fn cut_short(alloc: Global, nth: u32, how: Cut) -> Result<Option<Store>, AllocEr
     let mut first = ModelFlash::new(alloc, WORDS, 0x9E37_79B9 + u64::from(nth))?;
     let second = ModelFlash::new(alloc, WORDS, 0x7F4A_7C15)?;
     first.cut(nth, how);
-    let Ok(mut keeper) = FlashKeeper::format(first, second, 1) else {
+    let Ok(mut keeper) = FlashKeeper::format(first, second, 4, 1) else {
         return Ok(None);
     };
     let Ok(()) = keeper.put(1, &Record::from_octets(&[1; 20])) else {
@@ -84,8 +84,8 @@ fn cut_short(alloc: Global, nth: u32, how: Cut) -> Result<Option<Store>, AllocEr
 fn a_put_cut_short_costs_no_erase() {
     std::test::check(|rt: HostRuntime| -> Result<(), Fail> {
     for how in HOW {
-        // five operations of the format, six of the first put, then four words of the record, its fence and its mark
-        for nth in 12..18 {
+        // six operations of the format, six of the first put, then four words of the record, its fence and its mark
+        for nth in 13..19 {
             let Some(keeper) = cut_short(rt.alloc(), nth, how)? else {
                 return Err(Fail::from("not cut short"));
             };
@@ -114,7 +114,7 @@ fn goes_on(mut keeper: Store) -> bool {
 fn a_put_cut_short_is_reopened() {
     std::test::check(|rt: HostRuntime| -> Result<(), Fail> {
     for how in HOW {
-        for nth in 12..18 {
+        for nth in 13..19 {
             let Some(keeper) = cut_short(rt.alloc(), nth, how)? else {
                 return Err(Fail::from("not cut short"));
             };

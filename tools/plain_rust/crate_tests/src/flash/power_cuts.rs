@@ -8,7 +8,7 @@ use std::alloc::{AllocError, Global};
 use std::test::Fail;
 
 /// Six cells a bank, so that the log is copied often.
-const WORDS: usize = 3 + 12 * 6;
+const WORDS: usize = 4 + 12 * 6;
 
 /// The ways in which power can fail.
 pub const HOW: [Cut; 3] = [Cut::Before, Cut::Within, Cut::After];
@@ -28,9 +28,9 @@ fn store(alloc: Global, nth: u32, how: Cut, of_second: bool) -> Result<Option<St
     } else {
         first.cut(nth, how);
     }
-    match FlashKeeper::format(first, second, 3) {
+    match FlashKeeper::format(first, second, 12, 3) {
         Ok(keeper) => Ok(Some(keeper)),
-        Err((_, first, second)) => Ok(FlashKeeper::format(first, second, 3).ok()),
+        Err((_, first, second)) => Ok(FlashKeeper::format(first, second, 12, 3).ok()),
     }
 }
 

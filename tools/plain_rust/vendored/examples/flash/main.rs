@@ -12,10 +12,13 @@ use kennelmorn_node::rattle_std::alloc::Global;
 use spi_nor::{Spi, SpiBank};
 use std::cell::RefCell;
 
-/// The slots of a meter (docs/FORMATS.md, "Store").
-const SLOTS: usize = 166;
-/// Two banks of 32 KiB.
-const SECTORS: usize = 8;
+/// The words that the records of a meter take in a bank, with every slot in use, and the puts and openings that there are between two erases of it.
+const WORDS: usize = 339;
+const PUTS: usize = 184;
+/// Two banks of 20 KiB.
+const SECTORS: usize = 5;
+/// Where the second one begins.
+const SECOND: u32 = 0x8000;
 
 /// A part of 64 KiB.
 struct Part {
@@ -65,14 +68,14 @@ impl Spi for Part {
 type Flash<'a> = FlashKeeper<SpiBank<'a, Part>>;
 
 fn banks(part: &RefCell<Part>) -> (SpiBank<'_, Part>, SpiBank<'_, Part>) {
-    (SpiBank::new(part, 0, SECTORS), SpiBank::new(part, 0x8000, SECTORS))
+    (SpiBank::new(part, 0, SECTORS), SpiBank::new(part, SECOND, SECTORS))
 }
 
 /// In the factory, once: it erases both banks.
 fn factory(part: &RefCell<Part>) {
     let (first, second) = banks(part);
     // Flash: try again with the banks that come back. Small, Sizes: the build is wrong.
-    FlashKeeper::format(first, second, SLOTS).map_err(|it| it.0).expect("the factory's flash");
+    FlashKeeper::format(first, second, WORDS, PUTS).map_err(|it| it.0).expect("the factory's flash");
 }
 
 /// At each start: the store, by what each fault means.
@@ -111,7 +114,7 @@ fn go_on(meter: &mut Meter<Flash<'_>>) {
 }
 
 fn main() {
-    let part = RefCell::new(Part { octets: vec![0xA5; 2 * SECTORS * 4096], may_write: false, power: None });
+    let part = RefCell::new(Part { octets: vec![0xA5; 0x1_0000], may_write: false, power: None });
     let mut out = Out::new(Global).expect("memory");
     factory(&part);
 
@@ -157,7 +160,7 @@ fn main() {
 
     // A bit of a record changes by itself, which the next start sees.
     drop(meter);
-    let live = [0, 0x8000].into_iter().find(|it| layout_of(&SpiBank::new(&part, *it, SECTORS)).is_some()).expect("one bank has the store");
+    let live = [0, SECOND].into_iter().find(|it| layout_of(&SpiBank::new(&part, *it, SECTORS)).is_some()).expect("one bank has the store");
     part.borrow_mut().octets[live as usize + 32] ^= 1;
     println!("then a bit changes: {}", store(&part).err().unwrap_or("nobody sees it"));
 }

@@ -6,7 +6,8 @@ use Rattle.flash_keeper.proofs.keeper.FlashKeeper.live.Goals as goal
 pub returns-clause-log : goal.returns-clause-log
 returns-clause-log g c =
     let live = g.B.FlashBank.bank c.self.inside.pair.live in (
+      c.self.inside.pair.front,
       c.self.inside.pair.next,
-      subst (λ (s : FlashStore). IsLeft live c.self.inside.pair.next (record { old = s.store.records; new = s.left })) c.self.view_is
+      subst (λ (s : FlashStore). IsLeft c.self.inside.pair.front live c.self.inside.pair.next (record { old = s.store.records; new = s.left })) c.self.view_is
           c.self.invariant.held.left.log,
     )

@@ -12,7 +12,7 @@ pub returns-in_default-clause-opened : goal.returns-in_default-clause-opened
 returns-in_default-clause-opened g c = one_if_ok c.settled.result (λ keeper f choice store.
     let left = choose_second (g.B.FlashBank.bank c.args.first) (g.B.FlashBank.bank c.args.second) choice
     c.in-Some-two.later c.generation_of-two.result c.generation_of-two.ensures c.in-Some-two.is store in
-    f left.0 choice left.1) c.settled.ensures.opened
+    f left.0 left.1 choice left.2) c.settled.ensures.opened
 
 pub returns-in_default-clause-fault : goal.returns-in_default-clause-fault
 returns-in_default-clause-fault g c = one_if_err c.settled.result (λ e f.
@@ -23,7 +23,7 @@ returns-in_default-clause-fault g c = one_if_err c.settled.result (λ e f.
         λ choice store.
             let left = choose_second (g.B.FlashBank.bank c.args.first) (g.B.FlashBank.bank c.args.second) choice
             c.in-Some-two.later c.generation_of-two.result c.generation_of-two.ensures c.in-Some-two.is store in
-            both.1 left.0 choice left.1,
+            both.1 left.0 left.1 choice left.2,
       )
     ])) c.settled.ensures.fault
 
@@ -37,7 +37,7 @@ pub returns-in_default-clause-left : goal.returns-in_default-clause-left
 returns-in_default-clause-left g c = one_if_err c.settled.result (λ e f choice store.
     let left = choose_second (g.B.FlashBank.bank c.args.first) (g.B.FlashBank.bank c.args.second) choice
     c.in-Some-two.later c.generation_of-two.result c.generation_of-two.ensures c.in-Some-two.is store in
-    f left.0 choice left.1) c.settled.ensures.left
+    f left.0 left.1 choice left.2) c.settled.ensures.left
 
 pub settled-requires-in_default-two-2-clause-left : goal.settled-requires-in_default-two-2-clause-left
 settled-requires-in_default-two-2-clause-left g c = chosen (g.B.FlashBank.bank c.args.first) (g.B.FlashBank.bank c.args.second)
@@ -47,7 +47,7 @@ pub returns-in_default-two-2-clause-opened : goal.returns-in_default-two-2-claus
 returns-in_default-two-2-clause-opened g c = one_if_ok c.settled-in_default-two-2.result (λ keeper f choice store.
     let left = choose (g.B.FlashBank.bank c.args.first) (g.B.FlashBank.bank c.args.second) choice
     c.in-Some.earlier c.generation_of-one.result c.generation_of-one.ensures c.in-Some.is store in
-    f left.0 choice left.1) c.settled-in_default-two-2.ensures.opened
+    f left.0 left.1 choice left.2) c.settled-in_default-two-2.ensures.opened
 
 pub returns-in_default-two-2-clause-fault : goal.returns-in_default-two-2-clause-fault
 returns-in_default-two-2-clause-fault g c = one_if_err c.settled-in_default-two-2.result (λ e f.
@@ -58,7 +58,7 @@ returns-in_default-two-2-clause-fault g c = one_if_err c.settled-in_default-two-
         λ choice store.
             let left = choose (g.B.FlashBank.bank c.args.first) (g.B.FlashBank.bank c.args.second) choice
             c.in-Some.earlier c.generation_of-one.result c.generation_of-one.ensures c.in-Some.is store in
-            both.1 left.0 choice left.1,
+            both.1 left.0 left.1 choice left.2,
       )
     ])) c.settled-in_default-two-2.ensures.fault
 
@@ -72,7 +72,7 @@ pub returns-in_default-two-2-clause-left : goal.returns-in_default-two-2-clause-
 returns-in_default-two-2-clause-left g c = one_if_err c.settled-in_default-two-2.result (λ e f choice store.
     let left = choose (g.B.FlashBank.bank c.args.first) (g.B.FlashBank.bank c.args.second) choice
     c.in-Some.earlier c.generation_of-one.result c.generation_of-one.ensures c.in-Some.is store in
-    f left.0 choice left.1) c.settled-in_default-two-2.ensures.left
+    f left.0 left.1 choice left.2) c.settled-in_default-two-2.ensures.left
 
 pub settled-requires-then-earlier-later-clause-left : goal.settled-requires-then-earlier-later-clause-left
 settled-requires-then-earlier-later-clause-left g c = chosen_second (g.B.FlashBank.bank c.args.first) (g.B.FlashBank.bank c.args.second)
@@ -82,7 +82,7 @@ pub returns-then-earlier-later-clause-opened : goal.returns-then-earlier-later-c
 returns-then-earlier-later-clause-opened g c = one_if_ok c.settled-then-earlier-later.result (λ keeper f choice store.
     let left = choose_second (g.B.FlashBank.bank c.args.first) (g.B.FlashBank.bank c.args.second) choice
     c.in-Some-two-2.later c.generation_of-two.result c.generation_of-two.ensures c.in-Some-two-2.is store in
-    f left.0 choice left.1) c.settled-then-earlier-later.ensures.opened
+    f left.0 left.1 choice left.2) c.settled-then-earlier-later.ensures.opened
 
 pub returns-then-earlier-later-clause-fault : goal.returns-then-earlier-later-clause-fault
 returns-then-earlier-later-clause-fault g c = one_if_err c.settled-then-earlier-later.result (λ e f.
@@ -93,7 +93,7 @@ returns-then-earlier-later-clause-fault g c = one_if_err c.settled-then-earlier-
         λ choice store.
             let left = choose_second (g.B.FlashBank.bank c.args.first) (g.B.FlashBank.bank c.args.second) choice
             c.in-Some-two-2.later c.generation_of-two.result c.generation_of-two.ensures c.in-Some-two-2.is store in
-            both.1 left.0 choice left.1,
+            both.1 left.0 left.1 choice left.2,
       )
     ])) c.settled-then-earlier-later.ensures.fault
 
@@ -107,7 +107,7 @@ pub returns-then-earlier-later-clause-left : goal.returns-then-earlier-later-cla
 returns-then-earlier-later-clause-left g c = one_if_err c.settled-then-earlier-later.result (λ e f choice store.
     let left = choose_second (g.B.FlashBank.bank c.args.first) (g.B.FlashBank.bank c.args.second) choice
     c.in-Some-two-2.later c.generation_of-two.result c.generation_of-two.ensures c.in-Some-two-2.is store in
-    f left.0 choice left.1) c.settled-then-earlier-later.ensures.left
+    f left.0 left.1 choice left.2) c.settled-then-earlier-later.ensures.left
 
 pub settled-requires-2-clause-left : goal.settled-requires-2-clause-left
 settled-requires-2-clause-left g c = chosen (g.B.FlashBank.bank c.args.first) (g.B.FlashBank.bank c.args.second)
@@ -117,7 +117,7 @@ pub returns-clause-opened : goal.returns-clause-opened
 returns-clause-opened g c = one_if_ok c.settled-2.result (λ keeper f choice store.
     let left = choose (g.B.FlashBank.bank c.args.first) (g.B.FlashBank.bank c.args.second) choice
     c.in-Some.earlier c.generation_of-one.result c.generation_of-one.ensures c.in-Some.is store in
-    f left.0 choice left.1) c.settled-2.ensures.opened
+    f left.0 left.1 choice left.2) c.settled-2.ensures.opened
 
 pub returns-clause-fault : goal.returns-clause-fault
 returns-clause-fault g c = one_if_err c.settled-2.result (λ e f.
@@ -128,7 +128,7 @@ returns-clause-fault g c = one_if_err c.settled-2.result (λ e f.
         λ choice store.
             let left = choose (g.B.FlashBank.bank c.args.first) (g.B.FlashBank.bank c.args.second) choice
             c.in-Some.earlier c.generation_of-one.result c.generation_of-one.ensures c.in-Some.is store in
-            both.1 left.0 choice left.1,
+            both.1 left.0 left.1 choice left.2,
       )
     ])) c.settled-2.ensures.fault
 
@@ -142,7 +142,7 @@ pub returns-clause-left : goal.returns-clause-left
 returns-clause-left g c = one_if_err c.settled-2.result (λ e f choice store.
     let left = choose (g.B.FlashBank.bank c.args.first) (g.B.FlashBank.bank c.args.second) choice
     c.in-Some.earlier c.generation_of-one.result c.generation_of-one.ensures c.in-Some.is store in
-    f left.0 choice left.1) c.settled-2.ensures.left
+    f left.0 left.1 choice left.2) c.settled-2.ensures.left
 
 pub returns-in_default-clause-worn : goal.returns-in_default-clause-worn
 returns-in_default-clause-worn g c =

@@ -1,12 +1,12 @@
 use Rattle.std.proofs.Common.{◌≤◌, ◌<◌, ◌-◌, ℕ}
-use Rattle.flash_keeper.specs.Log.{HasDecayed}
-use Rattle.flash_keeper.proofs.cells.has_decayed.Given as goal
+use Rattle.flash_keeper.specs.Log.{IsDecayedCell}
+use Rattle.flash_keeper.proofs.cells.has_decayed_cell.Given as goal
 
 abbrev pub invariant-loop-cell : goal.invariant-loop-cell
 invariant-loop-cell g l =
     let bank = g.B.FlashBank.bank l.bank in
     record {
-      fine : (k : ℕ) → k < l.cell → HasDecayed bank.words k → ⊥;
+      fine : (k : ℕ) → k < l.cell → IsDecayedCell l.front bank.words k → ⊥;
       below : l.cell ≤ l.count;
     }
 
