@@ -4,7 +4,7 @@
 //! [`Reach::scan`], [`Reach::choose`], [`Reach::broadcast`] and [`Reach::ask`] are calls beside its own. What goes out is in `out`, as of each call of a node.
 //!
 //! These are the rules of further reach in `docs/NODE-RULES.md`, by the parts that are proved. This file itself is tested: the reports of five examples are
-//! those of the proved program.
+//! those of the proved program, and those of scripts by chance, in which power fails too, are what `line_replay` says as plain Rust.
 use kennelmorn_node::broadcast_log::{Broadcast, BroadcastBuf, BroadcastLog, LogFault, read_broadcast, write_broadcast};
 use kennelmorn_node::coordinator::Coordinator;
 use kennelmorn_node::loadng_messages::{Message, read_message};
