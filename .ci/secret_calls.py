@@ -393,3 +393,68 @@ int main(int words, char **word)
     return 0;
 }
 """
+
+
+def plain(text):
+    """Returns the same code in plain Rust, which has no contracts."""
+    return "".join(line for line in text.splitlines(keepends=True) if not line.startswith(("    requires", "ghost use", "#![tactic")))
+
+
+# A member of the export, by its files.
+PLAIN = {
+    "Cargo.toml": """[package]
+name = "secret_calls"
+version = "0.0.0"
+edition = "2024"
+publish = false
+
+[lib]
+crate-type = ["staticlib"]
+
+[dependencies]
+plc_base = { path = "../crates/plc_base" }
+aes_modes = { path = "../crates/aes_modes" }
+eap_psk = { path = "../crates/eap_psk" }
+""",
+    "src/lib.rs": plain(CRATE),
+    "src/joining.rs": plain(JOINING),
+}
+
+FRAMES = r"""
+#include <stdbool.h>
+#include <stdio.h>
+#include <stdlib.h>
+#include <string.h>
+#include <valgrind/memcheck.h>
+#include "frames.h"
+
+static uint8_t key[16], text[400] = {5}, frame[400];
+static const struct frames_head head = {.pan = 0x781D, .counter = 7, .to = 2, .from = 1, .kind = FRAMES_SEALED, .version = 1, .ack = 1};
+
+static size_t sealed(size_t count)
+{
+    size_t written = 0;
+    return frames_seal(key, 16, &head, text, count, frame, sizeof frame, &written) == FRAMES_OK ? written : 0;
+}
+
+static bool opens(size_t length)
+{
+    size_t written = 0;
+    uint32_t status = frames_open(key, 16, frame, length, text, sizeof text, &written);
+    VALGRIND_MAKE_MEM_DEFINED(&status, sizeof status);
+    return status == FRAMES_OK;
+}
+
+/* frames hidden WHAT COUNT TIMES */
+int main(int words, char **word)
+{
+    if (words < 5) return 2;
+    bool seals = !strcmp(word[2], "frames_seal");
+    size_t count = strtoul(word[3], 0, 10), length = seals ? 0 : sealed(count);
+    if (!strcmp(word[2], "frames_open_wrong")) frame[length - 1] ^= 1;
+    VALGRIND_MAKE_MEM_UNDEFINED(key, sizeof key);
+    if (seals) VALGRIND_MAKE_MEM_UNDEFINED(text, count);
+    printf("%d\n", seals ? sealed(count) == count + 19 : opens(length));
+    return 0;
+}
+"""
