@@ -11,12 +11,9 @@ use Rattle.flash_keeper.specs.Banks.{IsDecayed, MayOpen, IsCause, IsCopy, AreHel
 use Rattle.flash_keeper.specs.declared.front.Front.{Front}
 use Rattle.flash_keeper.specs.declared.keeper.OpenFault.{OpenFault}
 use Rattle.flash_keeper.proofs.RecordLemmas.{whole-same}
-use Rattle.flash_keeper.proofs.FrontLemmas.{front-same}
+use Rattle.flash_keeper.proofs.FrontLemmas.{front-same, some_is_none, some_same}
 use Rattle.flash_keeper.proofs.CellLemmas.{upto-same, upto_fence-same, all_certain-same}
 use Rattle.flash_keeper.proofs.LogLemmas.{one_of, settled_is_left, uncounted_cell}
-
-pub some_is_none : {A : Type 0} {x : A} → Some x ≡ None → ⊥
-some_is_none e = cc
 
 -- a head stays where its words do
 pub headed-same : (old new : Bank) (g : ℕ) → new.torn ≡ old.torn → new.words 0 ≡ old.words 0 → new.words 1 ≡ old.words 1 → IsHeaded old g → IsHeaded new g
@@ -398,9 +395,6 @@ among-same : (f : Front) (old new : Bank) (n : ℕ) → HasFront old f → ((i :
 among-same f old new n h same =
     let e = choice-same f old new n h same in
     (inl (ap (λ (c : Choice). c.old) e), inr (ap (λ (c : Choice). c.new) e))
-
-pub some_same : {A : Type 0} {x y : A} → Some x ≡ Some y → x ≡ y
-some_same e = cc
 
 -- banks of which only the words of heads have changed
 pub moved_is_held : (f : Front) (old live spare : Bank) (n : ℕ) (copied : Option Front) → HasFront old f → live.size ≡ spare.size

@@ -1,5 +1,5 @@
 -- What a cell is depends on its own words alone, and what a reading of a certain one shows.
-use Rattle.std.proofs.Common.{◌≡◌, ◌⊎◌, inl, inr, ℕ, zero, suc, ◌+◌, ◌<◌, ◌≤◌, true, if◌then◌else◌, Some, sym, subst, ap, ◌∙◌, refl, arith}
+use Rattle.std.proofs.Common.{◌≡◌, inl, inr, ℕ, zero, suc, ◌+◌, ◌<◌, ◌≤◌, true, if◌then◌else◌, Some, sym, subst, ap, ◌∙◌, refl, arith}
 use Rattle.std.specs.FinMap.{insert}
 use Rattle.plc_base.specs.Keeper.{Records}
 use Rattle.flash_keeper.specs.Flash.{Word, Bank, erased}
@@ -7,7 +7,7 @@ use Rattle.flash_keeper.specs.Records.{slot_at, octets_at, begun}
 use Rattle.flash_keeper.specs.Front.{front_records, AreInFront, HasFront}
 use Rattle.flash_keeper.specs.Log.{place, mark, close, fence, counts, step, upto, upto_fence, IsCertain, AreCertain}
 use Rattle.flash_keeper.specs.declared.front.Front.{Front}
-use Rattle.flash_keeper.proofs.RecordLemmas.{SameRecord, slot_at-same, octets_at-same, whole-same, succ}
+use Rattle.flash_keeper.proofs.RecordLemmas.{SameRecord, slot_at-same, octets_at-same, whole-same, less_or_same, succ}
 use Rattle.flash_keeper.proofs.FrontLemmas.{front_records-same, front-same}
 
 -- the words of a cell are the same
@@ -82,16 +82,7 @@ all_certain-same f w v n h x = λ k le. certain-same f w v k (cell_of_front f w 
 
 -- one cell more that is certain
 pub one_more_certain : (f : Front) (w : ℕ → Word) (n : ℕ) → AreCertain f w n → IsCertain f w n → AreCertain f w (n + 1)
-one_more_certain f w n all one = λ k le. elim (same_or_less k n le) [
-  | inl e ↦ subst (λ (j : ℕ). IsCertain f w j) (sym e) one
-  | inr less ↦ all k less
+one_more_certain f w n all one = λ k le. elim (less_or_same n k (omega (arith, le))) [
+  | inl less ↦ all k less
+  | inr e ↦ subst (λ (j : ℕ). IsCertain f w j) (sym e) one
 ]
-  where
-    same_or_less : (k n : ℕ) → k < n + 1 → (k ≡ n) ⊎ (k < n)
-    same_or_less zero zero le = inl refl
-    same_or_less zero (suc n) le = inr (omega arith)
-    same_or_less (suc k) zero le = absurd (omega (arith, le))
-    same_or_less (suc k) (suc n) le = elim (same_or_less k n (omega (arith, le))) [
-      | inl e ↦ inl (ap suc e)
-      | inr less ↦ inr (omega (arith, less))
-    ]

@@ -1,7 +1,6 @@
 -- The records that cells stand for at one slot, and that a log has the same records without the cells that a later one replaces.
 use Rattle.std.proofs.Common.{◌≡◌, ℕ, zero, suc, ◌+◌, ◌-◌, ◌<◌, ◌≤◌, ◌==◌, ◌&&◌, ◌||◌, not, Bool, true, false, cond, if◌then◌else◌, List}
 use Rattle.std.proofs.Common.{Option, Some, None, refl, sym, subst, ap, ◌∙◌, arith}
-use Rattle.std.proofs.lemmas.Bool.Decides.{nat_tests}
 use Rattle.std.specs.Ordering.{nat_cmp}
 use Rattle.std.specs.Cmp.{nat_cmp_total}
 use Rattle.std.specs.FinMap.{get, insert, empty, get-empty, same_map, nat_cmp-IsAntisymmetric}
@@ -11,7 +10,7 @@ use Rattle.flash_keeper.specs.Records.{slot_at, octets_at}
 use Rattle.flash_keeper.specs.Front.{front_slot, front_octets, front_records}
 use Rattle.flash_keeper.specs.Log.{place, counts, step, upto, holds, holds_later, front_kept, kept}
 use Rattle.flash_keeper.specs.declared.front.Front.{Front}
-use Rattle.flash_keeper.proofs.RecordLemmas.{succ}
+use Rattle.flash_keeper.proofs.RecordLemmas.{same_number, succ}
 use Rattle.flash_keeper.proofs.FrontLemmas.{get_insert, same_slot}
 
 get_step : (c : Bool) (r : Records) (s : ℕ) (o : List ℕ) (q : ℕ) → get (if c then insert r s o else r) q ≡ cond (c && (s == q)) (Some o) (get r q)
@@ -277,11 +276,8 @@ kept_free f w n (suc k) q le h =
     let same = same_slot (slot_at w (place f k)) q e in subst (λ (s : ℕ). holds_later f w (suc k) (n - suc k) s ≡ true) (sym same) h)
     ∙ before
 
-same_is : (s : ℕ) → (s == s) ≡ true
-same_is s = grind (arith, nat_tests)
-
 holds_own : (f : Front) (w : ℕ → Word) (k : ℕ) → counts f w k ≡ true → holds f w k (slot_at w (place f k)) ≡ true
-holds_own f w k e = (λ i. e i && (slot_at w (place f k) == slot_at w (place f k))) ∙ same_is (slot_at w (place f k))
+holds_own f w k e = (λ i. e i && (slot_at w (place f k) == slot_at w (place f k))) ∙ same_number (slot_at w (place f k))
 
 -- so the record of a cell that counts is not yet there
 pub cell_apart : (f : Front) (w : ℕ → Word) (n k : ℕ) → k < n → counts f w k ≡ true → get (kept f w n k) (slot_at w (place f k)) ≡ None

@@ -14,7 +14,7 @@ use Rattle.flash_keeper.specs.Front.{HasFront, IsDecayedAt, IsGrowing, IsFresh, 
 use Rattle.flash_keeper.specs.Log.{IsSettled, upto}
 use Rattle.flash_keeper.specs.Wear.{Counts}
 use Rattle.flash_keeper.specs.declared.front.Front.{Front}
-use Rattle.flash_keeper.proofs.RecordLemmas.{SameRecord, head-same, slot_at-same, octets_at-same, whole-same, less_or_same, succ}
+use Rattle.flash_keeper.proofs.RecordLemmas.{SameRecord, head-same, slot_at-same, octets_at-same, whole-same, less_or_same, same_number, succ}
 
 -- the words of a front are the same
 abbrev pub SameOfFront : Front → (ℕ → Word) → (ℕ → Word) → Type 0
@@ -235,8 +235,11 @@ get_insert r s o q = get-insert nat_cmp_total r s o q ∙ ap (λ (b : Bool). con
 pub same_slot : (s t : ℕ) → (s == t) ≡ true → s ≡ t
 same_slot s t e = grind (arith, nat_tests)
 
-none_is_some : {A : Type 0} {x : A} → None ≡ Some x → ⊥
-none_is_some e = cc
+pub some_is_none : {A : Type 0} {x : A} → Some x ≡ None → ⊥
+some_is_none e = cc
+
+pub some_apart : {A : Type 0} {o : Option A} {x : A} → o ≡ None → o ≡ Some x → ⊥
+some_apart e h = some_is_none (sym h ∙ e)
 
 -- its first n records are firm within the bank, and each has its check
 pub record AreRight (bank : Bank) (n : ℕ) : Type 0 where
@@ -279,7 +282,7 @@ front_keeps f w i (suc d) q o le all e =
         → get (front_records w (i + d)) q ≡ Some o → cond b (Some (front_octets w (i + d))) (get (front_records w (i + d)) q) ≡ Some o
     by_slot true h apart before =
         let same = same_slot (front_slot w (i + d)) q h in
-        absurd (none_is_some (sym apart ∙ ap (λ (s : ℕ). get (front_records w (i + d)) s) same ∙ before))
+        absurd (some_apart apart (ap (λ (s : ℕ). get (front_records w (i + d)) s) same ∙ before))
     by_slot false h apart before = before
 
 -- what is known where a record of a front stands
@@ -319,9 +322,6 @@ place_after w i at n is long =
     let step : front_place w (i + 1) ≡ front_place w (suc i) = ap (front_place w) (succ i) in
     omega (arith, is, wide, next, step)
 
-same_is : (s : ℕ) → (s == s) ≡ true
-same_is s = grind (arith, nat_tests)
-
 apart_is : (s t : ℕ) → (s ≡ t → ⊥) → (s == t) ≡ false
 apart_is s t never = grind (arith, nat_tests)
 
@@ -331,7 +331,7 @@ pub front_found : (f : Front) (w : ℕ → Word) (i q : ℕ) → i < f.count →
 front_found f w i q less all is =
     let d : ℕ = f.count - (i + 1) in
     let all_is : i + 1 + d ≡ f.count = omega (arith, less) in
-    let tied : (front_slot w i == q) ≡ true = ap (λ (s : ℕ). front_slot w i == s) (sym is) ∙ same_is (front_slot w i) in
+    let tied : (front_slot w i == q) ≡ true = ap (λ (s : ℕ). front_slot w i == s) (sym is) ∙ same_number (front_slot w i) in
     let here : get (front_records w (i + 1)) q ≡ Some (front_octets w i) =
     ap (λ (r : Records). get r q) (next_records w i) ∙ get_insert (front_records w i) (front_slot w i) (front_octets w i) q
     ∙ ap (λ (b : Bool). cond b (Some (front_octets w i)) (get (front_records w i) q)) tied in
@@ -422,11 +422,8 @@ whole_front bank f count at i h is all place =
     let words_is : at - 4 ≡ f.words = omega (arith, place, last, end) in
     λ k. Some (record { count = is k; words = words_is k })
 
-pub some_apart : {A : Type 0} {o : Option A} {x : A} → o ≡ None → o ≡ Some x → ⊥
-some_apart e h = none_is_some (sym e ∙ h)
+pub some_same : {A : Type 0} {x y : A} → Some x ≡ Some y → x ≡ y
+some_same e = cc
 
-pub some_same : {A : Type 0} {o : Option A} {x y : A} → o ≡ Some x → o ≡ Some y → x ≡ y
-some_same e h = inner (sym e ∙ h)
-  where
-    inner : {A : Type 0} {x y : A} → Some x ≡ Some y → x ≡ y
-    inner p = cc
+pub both_some : {A : Type 0} {o : Option A} {x y : A} → o ≡ Some x → o ≡ Some y → x ≡ y
+both_some e h = some_same (sym e ∙ h)

@@ -12,9 +12,8 @@ use Rattle.flash_keeper.specs.Wear.{worn_of}
 use Rattle.flash_keeper.specs.Wear.{worn_with, IsWornLog, IsWornLive, IsWornSpare, AreWorn, AreProgrammed}
 use Rattle.flash_keeper.specs.Banks.{IsDead, IsSeen, AreReady, AreWornBoth}
 use Rattle.flash_keeper.proofs.RecordLemmas.{less_or_same}
-use Rattle.flash_keeper.proofs.FrontLemmas.{front_in_is}
+use Rattle.flash_keeper.proofs.FrontLemmas.{front_in_is, some_is_none}
 use Rattle.flash_keeper.proofs.OpeningLemmas.{is_number}
-use Rattle.flash_keeper.proofs.BankLemmas.{some_is_none}
 use Rattle.flash_keeper.proofs.WearLemmas.{zero_is, of_zero, one_least, one_true, one_more, log_others}
 
 words_least : (programs : ℕ → ℕ) (share at n f : ℕ) → ((j : ℕ) → j < n → programs (at + j) ≤ f + share) → words_past programs share at n ≤ f

@@ -101,6 +101,17 @@ impl Chip {
         if is_head(0) && (!is_head(1) || first > second) { 0 } else { 1 }
     }
 
+    /// Whether the head of a bank reads as one word at one start, and as another at a later one.
+    fn has_weak_head(&self) -> bool {
+        self.banks.iter().any(|bank| {
+            let head = bank.read(0);
+            (0..1_000).any(|_| {
+                bank.0.borrow_mut().start();
+                bank.read(0) != head
+            })
+        })
+    }
+
     fn has_word(&self, word: u64) -> bool {
         self.banks.iter().any(|bank| (0..bank.words()).any(|at| bank.read(at) == word))
     }
@@ -127,8 +138,8 @@ fn opened(chip: &Chip, chance: &mut Chance, none: &mut u64) -> FlashKeeper<Bank>
         match chip.open(chance.below(2) == 0) {
             Ok(keeper) => return keeper,
             Err(OpenFault::Flash) if is_cut => {}
-            // Power failed twice in a row, each time in the word of a head: what the next opening reads is drawn anew.
-            Err(OpenFault::NoStore) if tries > 1 && tries < 1_000 => *none += 1,
+            // Power failed twice in a row, each time in the word of a head: what each opening reads is drawn anew, until the next copy.
+            Err(OpenFault::NoStore) if tries < 1_000 && (tries > 1 || chip.has_weak_head()) => *none += 1,
             Err(fault) => panic!("{fault:?} at try {tries}"),
         }
     }

@@ -3,7 +3,7 @@ use Rattle.flash_keeper.specs.Flash.{Bank}
 use Rattle.flash_keeper.specs.Front.{HasFront, IsDecayedFront}
 use Rattle.flash_keeper.specs.Log.{IsLeft, IsDecayedCell, HasDecayed, room}
 use Rattle.flash_keeper.specs.declared.front.Front.{Front}
-use Rattle.flash_keeper.proofs.FrontLemmas.{some_apart, some_same}
+use Rattle.flash_keeper.proofs.FrontLemmas.{some_apart, both_some}
 use Rattle.flash_keeper.proofs.cells.sound_front.Goals as goal
 
 -- a bank with a whole front, of which no cell has decayed
@@ -11,7 +11,7 @@ never_decayed : (bank : Bank) (f : Front) (seen : Option Front) → seen ≡ Som
     → (IsDecayedFront bank → seen ≡ None) → ((k : ℕ) → k < room f bank.size → IsDecayedCell f bank.words k → ⊥) → HasDecayed bank → ⊥
 never_decayed bank f seen is whole none cells (inl decayed) = some_apart (none decayed) is
 never_decayed bank f seen is whole none cells (inr (h, k, front, less, decayed)) =
-    let same : h ≡ f = some_same (whole h front) is in
+    let same : h ≡ f = both_some (whole h front) is in
     cells k (subst (λ (x : Front). k < room x bank.size) same less) (subst (λ (x : Front). IsDecayedCell x bank.words k) same decayed)
 
 pub returns-in_default-clause-left : goal.returns-in_default-clause-left
@@ -20,7 +20,7 @@ returns-in_default-clause-left g c = λ front n choice left. absurd (some_apart 
 pub returns-then-has_decayed_cell-clause-left : goal.returns-then-has_decayed_cell-clause-left
 returns-then-has_decayed_cell-clause-left g c = λ front n choice left.
     let bank = g.B.FlashBank.bank c.args.bank.now in
-    let same : front ≡ c.in-Some.front = some_same (c.front_of.ensures.whole front left.has_front) c.in-Some.is in
+    let same : front ≡ c.in-Some.front = both_some (c.front_of.ensures.whole front left.has_front) c.in-Some.is in
     absurd (c.has_decayed_cell.ensures.left c.if-has_decayed_cell.true n choice (subst (λ (f : Front). IsLeft f bank n choice) same left))
 
 pub returns-clause-left : goal.returns-clause-left

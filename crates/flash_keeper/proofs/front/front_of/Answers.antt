@@ -3,7 +3,7 @@ use Rattle.flash_keeper.specs.Records.{length_at}
 use Rattle.flash_keeper.specs.Front.{words_of, front_place}
 use Rattle.flash_keeper.proofs.RecordLemmas.{less_or_same}
 use Rattle.flash_keeper.proofs.FrontLemmas.{all_right, right_before, right_at, wrong_at, first_place, place_after, count_is, whole_front}
-use Rattle.flash_keeper.proofs.FrontLemmas.{some_apart, some_same}
+use Rattle.flash_keeper.proofs.FrontLemmas.{some_apart, both_some}
 use Rattle.flash_keeper.proofs.front.front_of.Goals as goal
 
 pub loop-i-init : goal.loop-i-init
@@ -38,7 +38,7 @@ loop-i-preserved g c =
       place = λ n right le.
           let at = c.loop-i.invariant.place n right (omega (arith, le)) in
           let here = right_at bank n i c.loop-i.at right (omega (arith, le)) at in
-          let long = some_same c.in-Some.is (c.right_words.ensures.right (words_of (length_at bank.words c.loop-i.at)) refl here.0 here.1 here.2) in
+          let long = both_some c.in-Some.is (c.right_words.ensures.right (words_of (length_at bank.words c.loop-i.at)) refl here.0 here.1 here.2) in
           place_after bank.words i c.loop-i.at c.in-Some.words at long;
       low = λ n k d. elim (less_or_same k i (c.loop-i.invariant.low n k d)) [
         | inl less ↦ omega (arith, less)

@@ -1,12 +1,11 @@
 use Rattle.std.proofs.Common.{◌≡◌, ◌≤◌, ◌+◌, inl, inr, leb, refl, subst, sym, ◌∙◌, arith}
 use Rattle.flash_keeper.specs.Banks.{AreLeft}
 use Rattle.flash_keeper.specs.declared.front.Front.{Front}
-use Rattle.flash_keeper.proofs.BankLemmas.{some_same, some_is_none}
 use Rattle.flash_keeper.proofs.KeeperLemmas.{nothing_else}
 use Rattle.flash_keeper.specs.Log.{room}
 use Rattle.flash_keeper.specs.Front.{front_in}
 use Rattle.flash_keeper.specs.Wear.{one_if, worn_with}
-use Rattle.flash_keeper.proofs.FrontLemmas.{front_in_is}
+use Rattle.flash_keeper.proofs.FrontLemmas.{front_in_is, some_same, some_is_none}
 use Rattle.flash_keeper.proofs.MeasureLemmas.{of_with, of_settled, with_opened}
 use Rattle.flash_keeper.proofs.keeper.FlashKeeper.settled.Goals as goal
 
